@@ -1,0 +1,130 @@
+-- The index: what a build writes, when an index is whole, and low and high read off any index by the two formulas.
+use Prim.Native.Nat.{ℕ, zero, suc, _+_, _-_, _*_, _/_}
+use mathlib.Core.Bool.{Bool, true, false, cond, not, _&&_}
+use mathlib.Core.List.{List, [], _∷_}
+use lib.ListN.{length, getD}
+use lib.Dec.{leb, ltb, eqb}
+use Rattle.rules.specs.declared.Head.{Head}
+use Rattle.rules.specs.Limits.{maxUnits, maxTracks}
+use Rattle.rules.specs.Ranges.{sum, bit1, some, every, table, rows}
+use Rattle.rules.specs.Listing.{Listing, track, size, position, within}
+use Rattle.rules.specs.Order.{low}
+use Rattle.rules.specs.Layout.{vectorBits, offset, roomBits, wordCount, meantBits}
+use Rattle.rules.specs.Bits.{bit, wordOf, onesBefore, placeOfOne, placeOfZero}
+
+-- ---- what a build writes for an accepted listing
+
+-- the bit that is the 1 of unit u in vector p,q, where p is the track of u: its place, from 1, is u's position plus low(u, q)
+unfoldable pub oneAt : Listing → ℕ → ℕ → ℕ
+oneAt c u q =
+    offset (size (c .tracks)) (c .k) (track (c .tracks) u) q + (position (c .tracks) u + low c u q - 1)
+
+-- bit x of the index: 1 where it is the 1 of some unit in some vector, else 0
+unfoldable pub builtBit : Listing → ℕ → ℕ
+builtBit c x =
+    bit1 (some (λ i. some (λ q. not (eqb q (track (c .tracks) (i + 1))) && eqb (oneAt c (i + 1) q) x) (c .k)) (c .n))
+
+-- W
+abbrev pub builtCount : Listing → ℕ
+builtCount c = wordCount (size (c .tracks)) (c .k)
+
+unfoldable pub builtWords : Listing → List ℕ
+builtWords c = table (λ j. wordOf (λ i. builtBit c (64 * j + i))) (builtCount c)
+
+unfoldable pub builtDirectory : Listing → List ℕ
+builtDirectory c = table (onesBefore (builtWords c)) (builtCount c)
+
+unfoldable pub builtHead : Listing → Head
+builtHead c = record { lens = table (size (c .tracks)) maxTracks; n = c .n; k = c .k }
+
+-- entry (u - 1) * k + q is low(u, q)
+unfoldable pub builtWork : Listing → List ℕ
+builtWork c = rows (λ i q. low c (i + 1) q) (c .n) (c .k)
+
+-- the bits that the vectors take: 2n(k - 1)
+unfoldable pub builtBits : Listing → ℕ
+builtBits c = meantBits (size (c .tracks)) (c .k)
+
+-- ---- any index
+
+pub record Index : Type 0 where
+  pub head : Head
+  pub tracks : List ℕ
+  pub words : List ℕ
+  pub directory : List ℕ
+
+-- the index that a build gives
+unfoldable pub builtIndex : Listing → Index
+builtIndex c = record { head = builtHead c; tracks = c .tracks; words = builtWords c; directory = builtDirectory c }
+
+-- the length of each track, by the head
+abbrev pub sizes : Index → ℕ → ℕ
+sizes x q = getD (x .head .lens) q 0
+
+-- vector p,q of the index
+unfoldable pub vector : Index → ℕ → ℕ → ℕ → ℕ
+vector x p q y = bit (x .words) (offset (sizes x) (x .head .k) p q + y)
+
+-- low(u, q) = (place of the i-th 1 in vector p,q) - i; for u's own track it is i - 1
+unfoldable pub lowIn : Index → ℕ → ℕ → ℕ
+lowIn x u q =
+    let p = track (x .tracks) u in
+    let i = position (x .tracks) u in
+    cond (eqb q p) (i - 1) (placeOfOne (vector x p q) (vectorBits (sizes x) p q) i - i)
+
+-- high(u, q) = (place of the i-th 0 in vector q,p) - i + 1; for u's own track it is i + 1
+unfoldable pub highIn : Index → ℕ → ℕ → ℕ
+highIn x u q =
+    let p = track (x .tracks) u in
+    let i = position (x .tracks) u in
+    cond (eqb q p) (i + 1) (placeOfZero (vector x q p) (vectorBits (sizes x) q p) i - i + 1)
+
+-- ---- whole: seven conditions, in document 01's order
+
+unfoldable pub inRange : Index → Bool
+inRange x = within 1 maxUnits (x .head .n) && within 1 maxTracks (x .head .k)
+
+unfoldable pub tracksFit : Index → Bool
+tracksFit x = eqb (length (x .tracks)) (x .head .n) && every (λ i. ltb (getD (x .tracks) i 0) (x .head .k)) (x .head .n)
+
+unfoldable pub lengthsTrue : Index → Bool
+lengthsTrue x =
+    every
+    (λ q. eqb (sizes x q) (size (x .tracks) q) && cond (ltb q (x .head .k)) (leb 1 (sizes x q)) (eqb (sizes x q) 0))
+    maxTracks
+
+-- W, by the head
+abbrev pub wordsOf : Index → ℕ
+wordsOf x = wordCount (sizes x) (x .head .k)
+
+unfoldable pub areasReach : Index → Bool
+areasReach x = leb (wordsOf x) (length (x .words)) && leb (wordsOf x) (length (x .directory))
+
+unfoldable pub spareClear : Index → Bool
+spareClear x =
+    every (λ i. eqb (bit (x .words) (roomBits (sizes x) (x .head .k) + i)) 0) (64 * wordsOf x - roomBits (sizes x) (x .head .k))
+
+unfoldable pub directoryTrue : Index → Bool
+directoryTrue x = every (λ j. eqb (getD (x .directory) j 0) (onesBefore (x .words) j)) (wordsOf x)
+
+unfoldable pub vectorsTrue : Index → Bool
+vectorsTrue x =
+    every
+    (λ p. every (λ q. eqb (sum (vector x p q) (vectorBits (sizes x) p q)) (cond (eqb p q) 0 (sizes x p))) (x .head .k))
+    (x .head .k)
+
+unfoldable pub conditions : Index → List Bool
+conditions x =
+    inRange x ∷ tracksFit x ∷ lengthsTrue x ∷ areasReach x ∷ spareClear x ∷ directoryTrue x ∷ vectorsTrue x ∷ []
+
+-- the number, from 1, of the first condition that fails, 0 where all hold
+unfoldable pub firstFailing : ℕ → List Bool → ℕ
+firstFailing number [] = 0
+firstFailing number (true ∷ holds) = firstFailing (suc number) holds
+firstFailing number (false ∷ holds) = number
+
+unfoldable pub fault : Index → ℕ
+fault x = firstFailing 1 (conditions x)
+
+unfoldable pub whole : Index → Bool
+whole x = eqb (fault x) 0
