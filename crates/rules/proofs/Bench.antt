@@ -6,11 +6,11 @@ use lib.Count.{ones}
 use Rattle.rules.specs.declared.Verdict.{Verdict}
 use Rattle.rules.specs.declared.Verdict.the-variants.{Fine, Refused}
 use Rattle.rules.specs.Ranges.{sum, bit1, count, greatest, smallest, first, some, every, keep, table}
-use Rattle.rules.specs.Listing.{Listing, track, inTrack, refuseFirst, countedNeeds, inLimits, badPair, pairAbove, outOfOrder, pairsVerdict, listingVerdict}
+use Rattle.rules.specs.Listing.{Listing, track, inTrack, refuseFirst, countedNeeds, inLimits, badUnits, badPair, unitsAbove, outOfOrder, pairsVerdict, listingVerdict}
 use Rattle.rules.specs.Order.{leads, needs, unitBefore, unsound, soundVerdict, low, high}
 use Rattle.rules.specs.Layout.{vectorBits, vectorRoom, offset, roomBits, wordCount, meantBits}
 use Rattle.rules.specs.Bits.{digit, bit, wordOf, onesBefore, placeOfOne, placeOfZero}
-use Rattle.rules.specs.Index.{oneAt, builtBit, builtWords, builtDirectory, builtHead, builtBits, builtIndex, Index, vector, lowIn, highIn}
+use Rattle.rules.specs.Index.{oneAt, builtBit, builtWords, builtDirectory, builtHead, builtBits, builtIndex, Index, vectorOf, vector, lowAt, lowIn, highAt, highIn}
 use Rattle.rules.specs.Questions.{kind10, kind11, kind15, kind18, kind10By, kind11By, unitsWhere, unitAt}
 use Rattle.rules.specs.Outcomes.{roomVerdict, filledVerdict, buildVerdict}
 
@@ -59,5 +59,5 @@ unfolding builtIndex builtWords builtDirectory table wordOf sum onesBefore built
 bench-is = refl
 
 pub P1-to-P12 : map (λ c. c .given) (cases (builtIndex six)) ≡ map (λ c. c .said) (cases (builtIndex six))
-unfolding cases accepted ones sum count greatest smallest first some every keep table track inTrack refuseFirst countedNeeds inLimits badPair pairAbove outOfOrder pairsVerdict listingVerdict leads needs unitBefore unsound soundVerdict low high vectorBits vectorRoom offset roomBits wordCount meantBits digit bit wordOf onesBefore placeOfOne placeOfZero builtHead builtBits vector lowIn highIn kind10By kind11By unitsWhere unitAt roomVerdict filledVerdict buildVerdict
+unfolding cases accepted ones sum count greatest smallest first some every keep table track inTrack refuseFirst countedNeeds inLimits badUnits badPair unitsAbove outOfOrder pairsVerdict listingVerdict leads needs unitBefore unsound soundVerdict low high vectorBits vectorRoom offset roomBits wordCount meantBits digit bit wordOf onesBefore placeOfOne placeOfZero builtHead builtBits vectorOf lowAt highAt kind10By kind11By unitsWhere unitAt roomVerdict filledVerdict buildVerdict
 P1-to-P12 = rw bench-is refl

@@ -1,3 +1,9 @@
 -- The laws about the definitions of specs/, in the order of a textbook.
 pub mod Ranges
+pub mod Verdicts
+pub mod Paths
+pub mod Bits
+pub mod Places
+pub mod Layouts
+pub mod Needs
 pub mod Bench

@@ -61,23 +61,27 @@ builtIndex c = record { head = builtHead c; tracks = c .tracks; words = builtWor
 abbrev pub sizes : Index → ℕ → ℕ
 sizes x q = getD (x .head .lens) q 0
 
--- vector p,q of the index
-unfoldable pub vector : Index → ℕ → ℕ → ℕ → ℕ
-vector x p q y = bit (x .words) (offset (sizes x) (x .head .k) p q + y)
+-- vector p,q among the words, for k tracks of lengths s
+unfoldable pub vectorOf : (ℕ → ℕ) → ℕ → List ℕ → ℕ → ℕ → ℕ → ℕ
+vectorOf s k words p q y = bit words (offset s k p q + y)
 
--- low(u, q) = (place of the i-th 1 in vector p,q) - i; for u's own track it is i - 1
-unfoldable pub lowIn : Index → ℕ → ℕ → ℕ
-lowIn x u q =
-    let p = track (x .tracks) u in
-    let i = position (x .tracks) u in
-    cond (eqb q p) (i - 1) (placeOfOne (vector x p q) (vectorBits (sizes x) p q) i - i)
+-- of position i of track p: low = (place of the i-th 1 in vector p,q) - i; for its own track it is i - 1
+unfoldable pub lowAt : (ℕ → ℕ) → ℕ → List ℕ → ℕ → ℕ → ℕ → ℕ
+lowAt s k words p i q = cond (eqb p q) (i - 1) (placeOfOne (vectorOf s k words p q) (vectorBits s p q) i - i)
 
--- high(u, q) = (place of the i-th 0 in vector q,p) - i + 1; for u's own track it is i + 1
-unfoldable pub highIn : Index → ℕ → ℕ → ℕ
-highIn x u q =
-    let p = track (x .tracks) u in
-    let i = position (x .tracks) u in
-    cond (eqb q p) (i + 1) (placeOfZero (vector x q p) (vectorBits (sizes x) q p) i - i + 1)
+-- of position i of track p: high = (place of the i-th 0 in vector q,p) - i + 1; for its own track it is i + 1
+unfoldable pub highAt : (ℕ → ℕ) → ℕ → List ℕ → ℕ → ℕ → ℕ → ℕ
+highAt s k words p i q = cond (eqb p q) (i + 1) (placeOfZero (vectorOf s k words q p) (vectorBits s q p) i - i + 1)
+
+-- vector p,q of the index, and low(u, q) and high(u, q) read off it
+abbrev pub vector : Index → ℕ → ℕ → ℕ → ℕ
+vector x = vectorOf (sizes x) (x .head .k) (x .words)
+
+abbrev pub lowIn : Index → ℕ → ℕ → ℕ
+lowIn x u q = lowAt (sizes x) (x .head .k) (x .words) (track (x .tracks) u) (position (x .tracks) u) q
+
+abbrev pub highIn : Index → ℕ → ℕ → ℕ
+highIn x u q = highAt (sizes x) (x .head .k) (x .words) (track (x .tracks) u) (position (x .tracks) u) q
 
 -- ---- whole: seven conditions, in document 01's order
 

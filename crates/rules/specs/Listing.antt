@@ -19,6 +19,9 @@ pub record Listing : Type 0 where
   pub tracks : List ℕ
   pub needs : List ℕ
 
+abbrev pub listing : ℕ → ℕ → List ℕ → List ℕ → Listing
+listing n k tracks needs = record { n = n; k = k; tracks = tracks; needs = needs }
+
 -- ---- the track list
 
 -- the track of unit u
@@ -74,16 +77,19 @@ unfoldable pub inLimits : Listing → Bool
 inLimits c = within 1 maxUnits (c .n) && within 1 maxTracks (c .k) && countedNeeds (c .needs) && eqb (length (c .tracks)) (c .n)
 
 -- 4: u or v is not 1 to n, or v is not below u
-unfoldable pub badPair : ℕ → List ℕ → ℕ → Bool
-badPair n l i = not (within 1 n (upper l i) && within 1 n (lower l i) && ltb (lower l i) (upper l i))
+unfoldable pub badUnits : ℕ → ℕ → ℕ → Bool
+badUnits n u v = not (within 1 n u && within 1 n v && ltb v u)
 
--- pair i is above pair j: by u, then by v
-unfoldable pub pairAbove : List ℕ → ℕ → ℕ → Bool
-pairAbove l i j = ltb (upper l j) (upper l i) || (eqb (upper l j) (upper l i) && ltb (lower l j) (lower l i))
+unfoldable pub badPair : ℕ → List ℕ → ℕ → Bool
+badPair n l i = badUnits n (upper l i) (lower l i)
+
+-- the pair (u, v) is above the pair (a, b): by the first unit, then by the second
+unfoldable pub unitsAbove : ℕ → ℕ → ℕ → ℕ → Bool
+unitsAbove u v a b = ltb a u || (eqb a u && ltb b v)
 
 -- 5: pair i is not above the one before it
 unfoldable pub outOfOrder : List ℕ → ℕ → Bool
-outOfOrder l i = ltb 0 i && not (pairAbove l i (i - 1))
+outOfOrder l i = ltb 0 i && not (unitsAbove (upper l i) (lower l i) (upper l (i - 1)) (lower l (i - 1)))
 
 -- refusals 4 and 5 of a need list, over the units 1 to n
 unfoldable pub pairsVerdict : ℕ → List ℕ → Verdict

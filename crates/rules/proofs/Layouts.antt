@@ -1,0 +1,261 @@
+-- Where each vector stands: the starts follow one another by the rooms, so the rooms do not meet and each bit has one home; and how many bits and words that takes.
+-- All of it is read off the sums of the layout. Only room-holds, room-meant and room-same know what a room is.
+-- Assumes nothing.
+use Prim.Native.Nat.{ℕ, zero, suc, _+_, _-_, _*_, _≤_, _<_}
+use mathlib.Core.Path.{_≡_, refl, sym, ap}
+use mathlib.Core.Bool.{cond}
+use mathlib.Core.Logic.{_⊎_, inl, inr}
+use native.Mathlib.Omega.{arith}
+use native.Mathlib.Nat.{le-refl, mul-le-mul, suc-mul, mul-add, mul-comm, mul-zero}
+use native.Mathlib.Decide.{decLt, ℕ-discrete}
+use lib.Dec.{eqb, ltb}
+use borrow.Author.Tests.{lt-ltb, le-ltb, eq-eqb, ne-eqb}
+use Rattle.rules.specs.Ranges.{sum, bit1}
+use Rattle.rules.specs.Layout.{vectorBits, vectorRoom, offset, roomBits, wordCount, meantBits}
+use Rattle.rules.proofs.Ranges.{sum-none, sum-next, sum-suc, sum-same, sum-le, sum-term, sum-plus, sum-const}
+
+-- ---- sums
+
+-- the term of a sum in which x lies
+pub record SumHome (f : ℕ → ℕ) (m x : ℕ) : Type 0 where
+  pub term : ℕ
+  pub within : term < m
+  pub from : sum f term ≤ x
+  pub below : x < sum f term + f term
+
+pub sum-home : (f : ℕ → ℕ) (m x : ℕ) → x < sum f m → SumHome f m x
+sum-home f zero x h = absurd (omega (arith, sum-none f))
+sum-home f (suc m) x h = go (sum-home f m x) (decLt x (sum f m))
+  where
+    go : (x < sum f m → SumHome f m x) → Dec (x < sum f m) → SumHome f (suc m) x
+    go before (yes l) =
+        let r = before l in
+        record { term = r .term; within = omega arith; from = r .from; below = r .below }
+    go before (no n) =
+        record { term = m; within = omega arith; from = omega arith; below = omega (arith, sum-suc f m) }
+
+pub sum-times : (a : ℕ) (f : ℕ → ℕ) (m : ℕ) → sum (λ i. a * f i) m ≡ a * sum f m
+unfolding sum
+sum-times a f zero = sym (mul-zero a)
+sum-times a f (suc m) = omega (arith, sum-times a f m, mul-add a (sum f m) (f m))
+
+-- a sum that leaves out term p
+pub sum-without : (f : ℕ → ℕ) (p m : ℕ) → sum (λ q. cond (eqb p q) 0 (f q)) m + bit1 (ltb p m) * f p ≡ sum f m
+unfolding sum
+sum-without f p zero = rw (le-ltb p 0 (omega arith)) (omega arith)
+sum-without f p (suc m) = go (sum-without f p m) (decLt p m) (ℕ-discrete p m)
+  where
+    go : sum (λ q. cond (eqb p q) 0 (f q)) m + bit1 (ltb p m) * f p ≡ sum f m → Dec (p < m) → Dec (p ≡ m)
+        → sum (λ q. cond (eqb p q) 0 (f q)) m + cond (eqb p m) 0 (f m) + bit1 (ltb p (suc m)) * f p ≡ sum f m + f m
+    go r d (yes e) =
+        let r′ = rw (le-ltb p m (omega arith)) at r in
+        rw (eq-eqb p m e, lt-ltb p (suc m) (omega arith)) (omega (arith, r′, ap f e))
+    go r (yes l) (no n) =
+        let r′ = rw (lt-ltb p m l) at r in
+        rw (ne-eqb p m n, lt-ltb p (suc m) (omega arith)) (omega (arith, r′))
+    go r (no g) (no n) =
+        let r′ = rw (le-ltb p m (omega arith)) at r in
+        rw (ne-eqb p m n, le-ltb p (suc m) (omega arith)) (omega (arith, r′))
+
+-- a number less one times
+less-times : (k a : ℕ) → 1 ≤ k → (k - 1) * a + a ≡ k * a
+less-times k a h = let e : suc (k - 1) ≡ k = omega arith in omega (arith, suc-mul (k - 1) a, ap (λ x. x * a) e)
+
+-- ---- the vectors
+
+-- the room of the vectors of track p
+abbrev rowRoom : (ℕ → ℕ) → ℕ → ℕ → ℕ
+rowRoom s k p = sum (vectorRoom s p) k
+
+module _ (s : ℕ → ℕ) (k : ℕ) where
+  pub offset-start : offset s k 0 0 ≡ 0
+  unfolding offset sum
+  offset-start = refl
+
+  pub offset-next : (p q : ℕ) → offset s k p (q + 1) ≡ offset s k p q + vectorRoom s p q
+  unfolding offset
+  offset-next p q = omega (arith, sum-next (vectorRoom s p) q)
+
+  pub offset-row : (p : ℕ) → offset s k (p + 1) 0 ≡ offset s k p k
+  unfolding offset
+  offset-row p = omega (arith, sum-next (rowRoom s k) p, sum-none (vectorRoom s (p + 1)))
+
+  pub offset-last : offset s k k 0 ≡ roomBits s k
+  unfolding offset roomBits
+  offset-last = omega (arith, sum-none (vectorRoom s k))
+
+  pub offset-within : (p q : ℕ) → p < k → q < k → offset s k p q + vectorRoom s p q ≤ roomBits s k
+  unfolding offset roomBits
+  offset-within p q l h = omega (arith, sum-term (vectorRoom s p) k q h, sum-term (rowRoom s k) k p l)
+
+  -- the room of a vector ends before a later one starts
+  pub offsets-apart : (p q p′ q′ : ℕ) → q < k → (p < p′) ⊎ ((p ≡ p′) × (q < q′)) → offset s k p q + vectorRoom s p q ≤ offset s k p′ q′
+  unfolding offset
+  offsets-apart p q p′ q′ h (inl b) = omega (arith, sum-term (vectorRoom s p) k q h, sum-term (rowRoom s k) p′ p b)
+  offsets-apart p q p′ q′ h (inr (e, b)) = rw (sym e) (omega (arith, sum-term (vectorRoom s p) q′ q b))
+
+-- the vector p,q whose room has bit x
+pub record BitHome (s : ℕ → ℕ) (k x : ℕ) : Type 0 where
+  pub p : ℕ
+  pub q : ℕ
+  pub row : p < k
+  pub column : q < k
+  pub from : offset s k p q ≤ x
+  pub below : x < offset s k p q + vectorRoom s p q
+
+module _ (s : ℕ → ℕ) (k x : ℕ) where
+  pub bit-home : x < roomBits s k → BitHome s k x
+  unfolding roomBits offset
+  bit-home h = in-row (sum-home (rowRoom s k) k x h)
+    where
+      in-row : SumHome (rowRoom s k) k x → BitHome s k x
+      in-row r = in-column (sum-home (vectorRoom s (r .term)) k (x - sum (rowRoom s k) (r .term)) (omega arith))
+        where
+          in-column : SumHome (vectorRoom s (r .term)) k (x - sum (rowRoom s k) (r .term)) → BitHome s k x
+          in-column c = record {
+            p = r .term;
+            q = c .term;
+            row = r .within;
+            column = c .within;
+            from = omega arith;
+            below = omega arith;
+          }
+
+  -- and no other vector has it
+  pub bit-home-one : (a b : BitHome s k x) → (a .p ≡ b .p) × (a .q ≡ b .q)
+  bit-home-one a b = go (decLt (a .p) (b .p)) (decLt (b .p) (a .p)) (decLt (a .q) (b .q)) (decLt (b .q) (a .q))
+    where
+      never : (a b : BitHome s k x) → (a .p < b .p) ⊎ ((a .p ≡ b .p) × (a .q < b .q)) → ⊥
+      never a b h = omega (arith, offsets-apart s k (a .p) (a .q) (b .p) (b .q) (a .column) h)
+      go : Dec (a .p < b .p) → Dec (b .p < a .p) → Dec (a .q < b .q) → Dec (b .q < a .q) → (a .p ≡ b .p) × (a .q ≡ b .q)
+      go (yes l) _ _ _ = absurd (never a b (inl l))
+      go (no _) (yes l) _ _ = absurd (never b a (inl l))
+      go (no m) (no n) (yes l) _ = absurd (never a b (inr (omega arith, l)))
+      go (no m) (no n) (no _) (yes l) = absurd (never b a (inr (omega arith, l)))
+      go (no m) (no n) (no h) (no i) = (omega arith, omega arith)
+
+-- ---- the bits of a vector and its room
+
+module _ (s : ℕ → ℕ) where
+  pub vector-own : (p : ℕ) → vectorBits s p p ≡ 0
+  unfolding vectorBits
+  vector-own p = rw (eq-eqb p p refl)
+
+  pub vector-other : (p q : ℕ) → (p ≡ q → ⊥) → vectorBits s p q ≡ s p + s q
+  unfolding vectorBits
+  vector-other p q n = rw (ne-eqb p q n)
+
+  pub room-holds : (p q : ℕ) → vectorBits s p q ≤ vectorRoom s p q
+  unfolding vectorRoom
+  room-holds p q = omega arith
+
+  pub meant-room : (k : ℕ) → meantBits s k ≤ roomBits s k
+  unfolding meantBits roomBits
+  meant-room k = sum-le _ _ k (λ p l. sum-le _ _ k (λ q h. room-holds p q))
+
+  pub room-meant : (k : ℕ) → roomBits s k ≡ meantBits s k
+  unfolding meantBits roomBits vectorRoom
+  room-meant k = refl
+
+  -- the bits of the vectors of track p
+  row-bits : (k p : ℕ) → p < k → sum (vectorBits s p) k + 2 * s p ≡ k * s p + sum s k
+  unfolding vectorBits
+  row-bits k p l =
+      let r = rw (lt-ltb p k l) at (sum-without (λ q. s p + s q) p k) in
+      omega (arith, r, sum-plus (λ q. s p) s k, sum-const (s p) k)
+
+  rows-bits : (k : ℕ) → meantBits s k + 2 * sum s k ≡ 2 * (k * sum s k)
+  unfolding meantBits
+  rows-bits k =
+      let rows = sum-same (λ p. sum (vectorBits s p) k + 2 * s p) (λ p. k * s p + sum s k) k (row-bits k) in
+      omega (
+        arith,
+        rows,
+        sum-plus (λ p. sum (vectorBits s p) k) (λ p. 2 * s p) k,
+        sum-times 2 s k,
+        sum-plus (λ p. k * s p) (λ p. sum s k) k,
+        sum-times k s k,
+        sum-const (sum s k) k
+      )
+
+  -- each unit stands in the two vectors that its track has with each other track
+  pub meant-bits : (k : ℕ) → meantBits s k ≡ 2 * (sum s k * (k - 1))
+  unfolding meantBits sum
+  meant-bits zero = refl
+  meant-bits (suc k) =
+      omega (arith, rows-bits (suc k), less-times (suc k) (sum s (suc k)) (omega arith), mul-comm (sum s (suc k)) (suc k - 1))
+
+  pub words-hold : (k : ℕ) → roomBits s k ≤ 64 * wordCount s k
+  unfolding wordCount
+  words-hold k = omega arith
+
+  pub words-tight : (k : ℕ) → 64 * wordCount s k < roomBits s k + 64
+  unfolding wordCount
+  words-tight k = omega arith
+
+  pub words-most : (k : ℕ) → sum s k ≤ 1024 → k ≤ 32 → wordCount s k ≤ 992
+  unfolding wordCount
+  words-most k most few =
+      let few′ : k - 1 ≤ 31 = omega arith in
+      omega (arith, room-meant k, meant-bits k, mul-le-mul most few′)
+
+-- ---- the same lengths
+
+module _ (s t : ℕ → ℕ) (k : ℕ) (same : (q : ℕ) → q < k → s q ≡ t q) where
+  pub vector-same : (p q : ℕ) → p < k → q < k → vectorBits s p q ≡ vectorBits t p q
+  unfolding vectorBits
+  vector-same p q l h = rw (same p l, same q h)
+
+  pub room-same : (p q : ℕ) → p < k → q < k → vectorRoom s p q ≡ vectorRoom t p q
+  unfolding vectorRoom
+  room-same p q l h = vector-same p q l h
+
+  row-same : (p : ℕ) → p < k → (q : ℕ) → q ≤ k → sum (vectorRoom s p) q ≡ sum (vectorRoom t p) q
+  row-same p l q h = sum-same _ _ q (λ q′ h′. room-same p q′ l (omega arith))
+
+  pub offset-same : (p q : ℕ) → p < k → q ≤ k → offset s k p q ≡ offset t k p q
+  unfolding offset
+  offset-same p q l h =
+      let above : sum (rowRoom s k) p ≡ sum (rowRoom t k) p = sum-same _ _ p (λ p′ l′. row-same p′ (omega arith) k (le-refl k)) in
+      omega (arith, row-same p l q h)
+
+  pub room-bits-same : roomBits s k ≡ roomBits t k
+  unfolding roomBits
+  room-bits-same = sum-same _ _ k (λ p l. row-same p l k (le-refl k))
+
+  pub words-same : wordCount s k ≡ wordCount t k
+  unfolding wordCount
+  words-same = rw room-bits-same
+
+  pub meant-same : meantBits s k ≡ meantBits t k
+  unfolding meantBits
+  meant-same = sum-same _ _ k (λ p l. sum-same _ _ k (λ q h. vector-same p q l h))
+
+-- ---- the ones before a vector
+
+-- the ones of vector p,q on a whole index
+abbrev pub onesIn : (ℕ → ℕ) → ℕ → ℕ → ℕ
+onesIn s p q = cond (eqb p q) 0 (s p)
+
+-- the ones of the vectors before p,q
+abbrev pub onesTo : (ℕ → ℕ) → ℕ → ℕ → ℕ → ℕ
+onesTo s k p q = sum (λ p′. sum (onesIn s p′) k) p + sum (onesIn s p) q
+
+module _ (s : ℕ → ℕ) where
+  -- the vectors of track p before p,q have s p ones each
+  ones-row : (p q : ℕ) → sum (onesIn s p) q ≡ (q - bit1 (ltb p q)) * s p
+  ones-row p q = go (decLt p q) (sum-without (λ q. s p) p q)
+    where
+      go : Dec (p < q) → sum (onesIn s p) q + bit1 (ltb p q) * s p ≡ sum (λ q. s p) q → sum (onesIn s p) q ≡ (q - bit1 (ltb p q)) * s p
+      go (yes l) r =
+          let r′ = rw (lt-ltb p q l) at r in
+          rw (lt-ltb p q l) (omega (arith, r′, sum-const (s p) q, less-times q (s p) (omega arith)))
+      go (no n) r =
+          let r′ = rw (le-ltb p q (omega arith)) at r in
+          let e : q - 0 ≡ q = omega arith in
+          rw (le-ltb p q (omega arith), e) (omega (arith, r′, sum-const (s p) q))
+
+  pub ones-to : (k p q : ℕ) → p ≤ k → onesTo s k p q ≡ (k - 1) * sum s p + (q - bit1 (ltb p q)) * s p
+  ones-to k p q l =
+      let above : sum (λ p′. sum (onesIn s p′) k) p ≡ sum (λ p′. (k - 1) * s p′) p = sum-same _ _ p (λ p′ l′. rw (ones-row p′ k, lt-ltb p′ k (omega arith))) in
+      omega (arith, ones-row p q, sum-times (k - 1) s p)
