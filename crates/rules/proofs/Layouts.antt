@@ -1,4 +1,4 @@
--- Where each vector stands: the starts follow one another by the rooms, so the rooms do not meet and each bit has one home; and how many bits and words that takes.
+-- Where each vector stands: a vector starts where the room before it ends, so no two rooms meet and each bit has one home; and the bits and words in all.
 -- All of it is read off the sums of the layout. Only room-holds, room-meant and room-same know what a room is.
 -- Assumes nothing.
 use Prim.Native.Nat.{ℕ, zero, suc, _+_, _-_, _*_, _≤_, _<_}
@@ -57,7 +57,7 @@ sum-without f p (suc m) = go (sum-without f p m) (decLt p m) (ℕ-discrete p m)
         let r′ = rw (le-ltb p m (omega arith)) at r in
         rw (ne-eqb p m n, le-ltb p (suc m) (omega arith)) (omega (arith, r′))
 
--- a number less one times
+-- k - 1 times a and once more
 less-times : (k a : ℕ) → 1 ≤ k → (k - 1) * a + a ≡ k * a
 less-times k a h = let e : suc (k - 1) ≡ k = omega arith in omega (arith, suc-mul (k - 1) a, ap (λ x. x * a) e)
 
@@ -89,7 +89,8 @@ module _ (s : ℕ → ℕ) (k : ℕ) where
   offset-within p q l h = omega (arith, sum-term (vectorRoom s p) k q h, sum-term (rowRoom s k) k p l)
 
   -- the room of a vector ends before a later one starts
-  pub offsets-apart : (p q p′ q′ : ℕ) → q < k → (p < p′) ⊎ ((p ≡ p′) × (q < q′)) → offset s k p q + vectorRoom s p q ≤ offset s k p′ q′
+  pub offsets-apart : (p q p′ q′ : ℕ) → q < k → (p < p′) ⊎ ((p ≡ p′) × (q < q′))
+      → offset s k p q + vectorRoom s p q ≤ offset s k p′ q′
   unfolding offset
   offsets-apart p q p′ q′ h (inl b) = omega (arith, sum-term (vectorRoom s p) k q h, sum-term (rowRoom s k) p′ p b)
   offsets-apart p q p′ q′ h (inr (e, b)) = rw (sym e) (omega (arith, sum-term (vectorRoom s p) q′ q b))
@@ -127,6 +128,7 @@ module _ (s : ℕ → ℕ) (k x : ℕ) where
     where
       never : (a b : BitHome s k x) → (a .p < b .p) ⊎ ((a .p ≡ b .p) × (a .q < b .q)) → ⊥
       never a b h = omega (arith, offsets-apart s k (a .p) (a .q) (b .p) (b .q) (a .column) h)
+
       go : Dec (a .p < b .p) → Dec (b .p < a .p) → Dec (a .q < b .q) → Dec (b .q < a .q) → (a .p ≡ b .p) × (a .q ≡ b .q)
       go (yes l) _ _ _ = absurd (never a b (inl l))
       go (no _) (yes l) _ _ = absurd (never b a (inl l))
@@ -164,6 +166,7 @@ module _ (s : ℕ → ℕ) where
       let r = rw (lt-ltb p k l) at (sum-without (λ q. s p + s q) p k) in
       omega (arith, r, sum-plus (λ q. s p) s k, sum-const (s p) k)
 
+  -- every unit counted 2 * k times is counted twice too often: there is no vector p,p
   rows-bits : (k : ℕ) → meantBits s k + 2 * sum s k ≡ 2 * (k * sum s k)
   unfolding meantBits
   rows-bits k =
@@ -175,7 +178,7 @@ module _ (s : ℕ → ℕ) where
         sum-times 2 s k,
         sum-plus (λ p. k * s p) (λ p. sum s k) k,
         sum-times k s k,
-        sum-const (sum s k) k
+        sum-const (sum s k) k,
       )
 
   -- each unit stands in the two vectors that its track has with each other track
@@ -255,7 +258,10 @@ module _ (s : ℕ → ℕ) where
           let e : q - 0 ≡ q = omega arith in
           rw (le-ltb p q (omega arith), e) (omega (arith, r′, sum-const (s p) q))
 
+  -- each track before p has k - 1 vectors, and track p those before p,q
   pub ones-to : (k p q : ℕ) → p ≤ k → onesTo s k p q ≡ (k - 1) * sum s p + (q - bit1 (ltb p q)) * s p
   ones-to k p q l =
-      let above : sum (λ p′. sum (onesIn s p′) k) p ≡ sum (λ p′. (k - 1) * s p′) p = sum-same _ _ p (λ p′ l′. rw (ones-row p′ k, lt-ltb p′ k (omega arith))) in
-      omega (arith, ones-row p q, sum-times (k - 1) s p)
+      omega (arith, sum-same (λ p′. sum (onesIn s p′) k) (λ p′. (k - 1) * s p′) p row, ones-row p q, sum-times (k - 1) s p)
+    where
+      row : (p′ : ℕ) → p′ < p → sum (onesIn s p′) k ≡ (k - 1) * s p′
+      row p′ h = rw (ones-row p′ k, lt-ltb p′ k (omega arith))

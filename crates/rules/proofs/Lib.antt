@@ -6,4 +6,9 @@ pub mod Bits
 pub mod Places
 pub mod Layouts
 pub mod Needs
+pub mod Chains
+pub mod Steps
+pub mod Accepted
+pub mod Tracks
+pub mod Bounds
 pub mod Bench

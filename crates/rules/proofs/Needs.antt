@@ -2,7 +2,7 @@
 -- Only that each pair goes down is used of a list, unless a law says more.
 -- Assumes nothing.
 use Prim.Native.Nat.{ℕ, zero, suc, _+_, _-_, _≤_, _<_}
-use mathlib.Core.Path.{_≡_, refl, sym, _∙_}
+use mathlib.Core.Path.{_≡_, refl, sym, ap, _∙_}
 use mathlib.Core.Bool.{Bool, true, false, not, _&&_, _||_}
 use mathlib.Core.List.{List}
 use mathlib.Core.Logic.{_⊎_, inl, inr}
@@ -23,9 +23,13 @@ use Rattle.rules.proofs.Paths.{path-join, path-down, direct-hop, path-d
 
 -- ---- the pairs of a list
 
--- pair i stands below pair j: by u, then by v
+-- the pair (u, v) comes before the pair (u′, v′): by u, then by v
+abbrev pub Before : ℕ → ℕ → ℕ → ℕ → Type 0
+Before u v u′ v′ = (u < u′) ⊎ ((u ≡ u′) × (v < v′))
+
+-- pair i stands below pair j
 abbrev pub Below : List ℕ → ℕ → ℕ → Type 0
-Below l i j = (upper l i < upper l j) ⊎ ((upper l i ≡ upper l j) × (lower l i < lower l j))
+Below l i j = Before (upper l i) (lower l i) (upper l j) (lower l j)
 
 -- each pair stands below the next
 abbrev pub Ordered : List ℕ → Type 0
@@ -106,20 +110,22 @@ module _ (n : ℕ) (l : List ℕ) where
   pub fine-pairs : Pairs n l → pairsVerdict n l ≡ Fine
   unfolding pairsVerdict
   fine-pairs c =
-      fine-then _ (refuse-none (badPair n l) (pairs l) BadPair (λ i q. pair-good n l i (c .first-in i q, c .second-in i q, c .goes-down i q)))
+      fine-then _
+      (refuse-none (badPair n l) (pairs l) BadPair
+      (λ i q. pair-good n l i (c .first-in i q, c .second-in i q, c .goes-down i q)))
       ∙ refuse-none (outOfOrder l) (pairs l) PairOrder (order-in l (c .ascends))
 
 -- ---- the order of the pairs
 
-below-trans : (l : List ℕ) (i j k : ℕ) → Below l i j → Below l j k → Below l i k
-below-trans l i j k (inl a) (inl b) = inl (omega arith)
-below-trans l i j k (inl a) (inr b) = inl (omega arith)
-below-trans l i j k (inr a) (inl b) = inl (omega arith)
-below-trans l i j k (inr a) (inr b) = inr (omega arith, omega arith)
+pub before-trans : {u v u′ v′ u″ v″ : ℕ} → Before u v u′ v′ → Before u′ v′ u″ v″ → Before u v u″ v″
+before-trans (inl a) (inl b) = inl (omega arith)
+before-trans (inl a) (inr b) = inl (omega arith)
+before-trans (inr a) (inl b) = inl (omega arith)
+before-trans (inr a) (inr b) = inr (omega arith, omega arith)
 
-below-not : (l : List ℕ) (i j : ℕ) → Below l i j → upper l i ≡ upper l j → lower l i ≡ lower l j → ⊥
-below-not l i j (inl a) e f = omega arith
-below-not l i j (inr a) e f = omega arith
+pub before-not : {u v u′ v′ : ℕ} → u ≡ u′ → v ≡ v′ → Before u v u′ v′ → ⊥
+before-not e f (inl a) = omega arith
+before-not e f (inr a) = omega arith
 
 module _ (l : List ℕ) (ordered : Ordered l) where
   pub ascends-far : (i j : ℕ) → i < j → j < pairs l → Below l i j
@@ -131,16 +137,50 @@ module _ (l : List ℕ) (ordered : Ordered l) where
 
       go : (i < j → j < pairs l → Below l i j) → (i ≡ j) ⊎ (i < j) → Below l i (suc j)
       go before (inl e) = rw e next
-      go before (inr b) = below-trans l i j (suc j) (before b (omega arith)) next
+      go before (inr b) = before-trans (before b (omega arith)) next
+
+  -- a pair that comes before another stands at a place before its place
+  pub listed-order : {u v u′ v′ : ℕ} (a : Listed l u v) (b : Listed l u′ v′) → Before u v u′ v′ → a .at < b .at
+  listed-order {u} {v} {u′} {v′} a b h = go (decLt (a .at) (b .at)) (decLt (b .at) (a .at))
+    where
+      back : b .at < a .at → Before u′ v′ u v
+      back q =
+          rw (b .first-is, b .second-is, a .first-is, a .second-is) at (ascends-far (b .at) (a .at) q (a .within))
+
+      go : Dec (a .at < b .at) → Dec (b .at < a .at) → a .at < b .at
+      go (yes q) d = q
+      go (no n) (yes q) = absurd (before-not refl refl (before-trans h (back q)))
+      go (no n) (no m) =
+          let e : a .at ≡ b .at = omega arith in
+          absurd
+          (before-not (sym (a .first-is) ∙ ap (upper l) e ∙ b .first-is) (sym (a .second-is) ∙ ap (lower l) e ∙ b .second-is) h)
 
   -- each pair is listed once
   pub listed-once : (i j : ℕ) → i < pairs l → j < pairs l → upper l i ≡ upper l j → lower l i ≡ lower l j → i ≡ j
   listed-once i j p q e f = go (decLt i j) (decLt j i)
     where
       go : Dec (i < j) → Dec (j < i) → i ≡ j
-      go (yes b) d = absurd (below-not l i j (ascends-far i j b q) e f)
-      go (no n) (yes b) = absurd (below-not l j i (ascends-far j i b p) (sym e) (sym f))
+      go (yes b) d = absurd (before-not e f (ascends-far i j b q))
+      go (no n) (yes b) = absurd (before-not (sym e) (sym f) (ascends-far j i b p))
       go (no n) (no m) = omega arith
+
+-- a list in order whose pairs are all listed in another in order has no more pairs
+pub pairs-most : (l m : List ℕ) → Ordered l → Ordered m
+    → ((i : ℕ) → i < pairs l → Listed m (upper l i) (lower l i)) → pairs l ≤ pairs m
+pairs-most l m p q each = go (decLt 0 (pairs l))
+  where
+    far : (i : ℕ) (b : i < pairs l) → i ≤ each i b .at
+    far zero b = omega arith
+    far (suc i) b =
+        let a : i < pairs l = omega arith in
+        let s : Below l i (suc i) = rw (add-one i) at (p i (omega arith)) in
+        omega (arith, far i a, listed-order m q (each i a) (each (suc i) b) s)
+
+    go : Dec (0 < pairs l) → pairs l ≤ pairs m
+    go (yes b) =
+        let last : pairs l - 1 < pairs l = omega arith in
+        omega (arith, far (pairs l - 1) last, each (pairs l - 1) last .within)
+    go (no n) = omega arith
 
 -- ---- needs, by computation and by paths
 
@@ -162,7 +202,8 @@ leads-suc l hops u v = some-same _ (leadsBy l hops u v) (pairs l) (λ i q. then-
 leads-path : (l : List ℕ) (hops u v : ℕ) → leads l hops u v ≡ true → Needs l u v
 unfolding leads
 leads-path l zero u v h = absurd (not-both h refl)
-leads-path l (suc hops) u v h = go (leads-path l hops) (some-find (leadsBy l hops u v) (pairs l) (sym (leads-suc l hops u v) ∙ h))
+leads-path l (suc hops) u v h =
+    go (leads-path l hops) (some-find (leadsBy l hops u v) (pairs l) (sym (leads-suc l hops u v) ∙ h))
   where
     go : ((u v : ℕ) → leads l hops u v ≡ true → Needs l u v) → (i : ℕ) × (i < pairs l) × (leadsBy l hops u v i ≡ true) → Needs l u v
     go onward (i, q, t) = on (and-both _ _ t)
@@ -190,7 +231,9 @@ module _ (l : List ℕ) (down : Descending l) where
   listed-down u v h = omega (arith, down (h .at) (h .within), h .first-is, h .second-is)
 
   leads-by : (hops u w v : ℕ) → Listed l u w → (w ≡ v) ⊎ (leads l hops w v ≡ true) → leads l (suc hops) u v ≡ true
-  leads-by hops u w v h on = leads-suc l hops u v ∙ some-yes (leadsBy l hops u v) (pairs l) (h .at) (h .within) (both-and (eq-eqb _ _ (h .first-is)) (onward on))
+  leads-by hops u w v h on =
+      leads-suc l hops u v
+      ∙ some-yes (leadsBy l hops u v) (pairs l) (h .at) (h .within) (both-and (eq-eqb _ _ (h .first-is)) (onward on))
     where
       onward : (w ≡ v) ⊎ (leads l hops w v ≡ true) → (eqb (lower l (h .at)) v || leads l hops (lower l (h .at)) v) ≡ true
       onward (inl e) = either-or (inl (eq-eqb _ _ (h .second-is ∙ e)))
@@ -264,7 +307,9 @@ module _ (l : List ℕ) (down : Descending l) where
       rw (path-needs (d .path), none)
     where
       lone : (w : ℕ) → w < u → (needs l u w && needs l w v) ≡ false
-      lone w q = not-yes (needs l u w && needs l w v) (λ t. let r = and-both _ _ t in d .alone w (needs-path (r .0)) (needs-path (r .1)))
+      lone w q =
+          not-yes (needs l u w && needs l w v)
+          (λ t. let r = and-both _ _ t in d .alone w (needs-path (r .0)) (needs-path (r .1)))
 
   -- every need is a path of direct steps
   pub needs-steps : {u v : ℕ} → Needs l u v → Path⁺ (DirectStep l) u v
@@ -274,7 +319,9 @@ module _ (l : List ℕ) (down : Descending l) where
 module _ {n : ℕ} {l : List ℕ} (c : Pairs n l) where
   pub listed-in : {u v : ℕ} → Listed l u v → (1 ≤ v) × (v < u) × (u ≤ n)
   listed-in h =
-      omega (arith, c .first-in (h .at) (h .within), c .second-in (h .at) (h .within), c .goes-down (h .at) (h .within), h .first-is, h .second-is)
+      let a = c .first-in (h .at) (h .within) in
+      let b = c .second-in (h .at) (h .within) in
+      omega (arith, c .goes-down (h .at) (h .within), h .first-is, h .second-is)
 
   pub needs-in : {u v : ℕ} → Needs l u v → (1 ≤ v) × (v < u) × (u ≤ n)
   needs-in (one h) = listed-in h

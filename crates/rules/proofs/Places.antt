@@ -1,9 +1,9 @@
--- The place of the i-th 1 and of the i-th 0 among m bits. Both are the first place that a count climbing by at most one reaches, so one argument serves the two;
--- the rest follows by the order of the counts. Zeros before a 1 and ones before a 0 determine each other, which is how one vector answers both ways.
+-- The place of the i-th 1 and of the i-th 0 among m bits. Each is the first place where a count that rises by at most one is i: one argument serves both.
+-- The rest follows by the order of the counts. Zeros before a 1 and ones before a 0 determine each other, so one vector answers both ways.
 -- Assumes nothing.
 use Prim.Native.Nat.{ℕ, zero, suc, _+_, _-_, _≤_, _<_}
-use mathlib.Core.Path.{_≡_, sym, ap, _∙_, subst}
-use mathlib.Core.Bool.{Bool}
+use mathlib.Core.Path.{_≡_, sym, ap, _∙_}
+use mathlib.Core.Bool.{Bool, false}
 use mathlib.Core.Logic.{_⊎_, inl, inr}
 use native.Mathlib.Omega.{arith}
 use native.Mathlib.Numerals.{add-one}
@@ -29,16 +29,20 @@ module _ (c : ℕ → ℕ) (m i : ℕ) where
     where
       p : ℕ → Bool
       p = λ y. leb i (c y)
+
       within : first p (suc m) ≤ m
       within = reached (decLe (first p (suc m)) m)
         where
           reached : Dec (first p (suc m) ≤ m) → first p (suc m) ≤ m
           reached (yes l) = l
           reached (no n) = absurd (not-both (le-leb i (c m) most) (first-before p (suc m) m (omega arith)))
+
       met : i ≤ c (first p (suc m))
       met = leb-true _ _ (first-met p (suc m) (omega (arith, within)))
+
       before : (j : ℕ) → j < first p (suc m) → c j < i
       before j l = leb-false _ _ (first-before p (suc m) j l)
+
       go : (y : ℕ) → y ≤ m → i ≤ c y → ((j : ℕ) → j < y → c j < i) → RiseAt c m i y
       go zero w r b = absurd (omega arith)
       go (suc y) w r b =
@@ -51,9 +55,12 @@ module _ (c : ℕ → ℕ) (m i : ℕ) where
             upto = omega (arith, step y);
           }
 
-  rise-place-is : (y : ℕ) → ((j : ℕ) → j ≤ y → c j ≤ c y) → y < m → c y + 1 ≡ i → c (suc y) ≡ i → first (λ z. leb i (c z)) (suc m) ≡ y + 1
-  rise-place-is y up l before upto =
-      rw add-one (first-is _ (suc m) (suc y) (omega arith) (λ j h. lt-leb i (c j) (omega (arith, up j (omega arith)))) (le-leb i (c (suc y)) (omega arith)))
+  rise-place-is : (y : ℕ) → ((j : ℕ) → j ≤ y → c j ≤ c y) → y < m → c y + 1 ≡ i → c (suc y) ≡ i
+      → first (λ z. leb i (c z)) (suc m) ≡ y + 1
+  rise-place-is y up l before upto = rw add-one (first-is _ (suc m) (suc y) (omega arith) none (le-leb i (c (suc y)) (omega arith)))
+    where
+      none : (j : ℕ) → j < suc y → leb i (c j) ≡ false
+      none j h = lt-leb i (c j) (omega (arith, up j (omega arith)))
 
 -- where a count is smaller, the place is earlier
 count-less : (c : ℕ → ℕ) → ((y z : ℕ) → y ≤ z → c y ≤ c z) → (y z : ℕ) → c y < c z → y < z
@@ -96,7 +103,9 @@ module _ (f : ℕ → ℕ) (bits : (y : ℕ) → f y ≤ 1) where
   zeros-suc y = omega (arith, sum-suc f y, ones-most y, bits y)
 
   pub zeros-up : (y z : ℕ) → y ≤ z → y - sum f y ≤ z - sum f z
-  zeros-up y z l = subst (λ (x : ℕ). y - sum f y ≤ x - sum f x) (let e : y + (z - y) ≡ z = omega arith in e) (omega (arith, sum-add f y (z - y), sum-most (λ x. f (y + x)) 1 (z - y) (λ x l. bits (y + x))))
+  zeros-up y z l =
+      let e : y + (z - y) ≡ z = omega arith in
+      omega (arith, ap (sum f) e, sum-add f y (z - y), sum-most (λ x. f (y + x)) 1 (z - y) (λ x h. bits (y + x)))
 
 module _ (f : ℕ → ℕ) (bits : (y : ℕ) → f y ≤ 1) (m : ℕ) where
   pub one-place : (i : ℕ) → 1 ≤ i → i ≤ sum f m → OnePlace f m i (placeOfOne f m i)
@@ -135,7 +144,8 @@ module _ (f : ℕ → ℕ) (bits : (y : ℕ) → f y ≤ 1) (m : ℕ) where
 
   pub zero-place-is : (j y : ℕ) → y < m → f y ≡ 0 → y - sum f y + 1 ≡ j → placeOfZero f m j ≡ y + 1
   unfolding placeOfZero
-  zero-place-is j y l none before = rise-place-is (λ x. x - sum f x) m j y (λ x h. zeros-up f bits x y h) l before (omega (arith, zeros-suc f bits y))
+  zero-place-is j y l none before =
+      rise-place-is (λ x. x - sum f x) m j y (λ x h. zeros-up f bits x y h) l before (omega (arith, zeros-suc f bits y))
 
   -- a later 1 stands at a later place
   pub one-place-up : (i j : ℕ) → 1 ≤ i → i < j → j ≤ sum f m → placeOfOne f m i < placeOfOne f m j
@@ -180,8 +190,10 @@ module _ (f : ℕ → ℕ) (bits : (y : ℕ) → f y ≤ 1) (m : ℕ) where
         where
           reach : j ≤ y - sum f y
           reach = rw (r .upto) h
+
           l : z - 1 < y
           l = count-less (λ y. y - sum f y) (zeros-up f bits) (z - 1) y (let b = t .before in omega (arith, reach))
+
           earlier : Dec (z ≡ y) → z - j + 1 ≤ i
           earlier (yes e) = absurd (omega (arith, r .is-one, t .is-zero, ap (λ x. f (x - 1)) e))
           earlier (no n) = rw (zero-ones t) (omega (arith, r .before, sum-up f z (y - 1) (omega (arith, l, r .from-one))))
@@ -258,28 +270,52 @@ module _ (f lows : ℕ → ℕ) (a b : ℕ) (bits : (y : ℕ) → f y ≤ 1)
 
   -- the ones up to a bit between the i-th 1 and the one after it
   between-ones : (i x : ℕ) → i ≤ a → x ≤ a + b → (1 ≤ i → i + lows i ≤ x) → (i < a → x ≤ i + lows (suc i)) → sum f x ≡ i
-  between-ones zero x l w past before = sum-zero f x (λ y h. between-zero 0 y (omega arith) (omega arith) (λ p. absurd (omega arith)) (λ p. omega (arith, before p)))
+  between-ones zero x l w past before =
+      sum-zero f x (λ y h. between-zero 0 y l (omega arith) (λ p. absurd (omega arith)) (λ p. omega (arith, before p)))
   between-ones (suc i) x l w past before =
-      let last : sum f (i + lows (suc i)) ≡ i = between-ones i (i + lows (suc i)) (omega arith) (omega (arith, most (suc i) (omega arith) l)) (λ p. omega (arith, rises i (suc i) p (omega arith) l)) (λ p. omega arith) in
-      let e : suc i + lows (suc i) - 1 ≡ i + lows (suc i) = omega arith in
-      let n : sum f (suc (i + lows (suc i))) ≡ suc i = omega (arith, sum-suc f (i + lows (suc i)), one (suc i) (omega arith) l, ap f e) in
-      sum-flat f (suc (i + lows (suc i))) x (omega (arith, past (omega arith))) (λ y h g. between-zero (suc i) y l (omega arith) (λ p. omega arith) (λ p. omega (arith, before p))) ∙ n
+      sum-flat f (suc y) x (omega (arith, past (omega arith))) none ∙ omega (arith, sum-suc f y, last (between-ones i y), is-one)
+    where
+      y : ℕ
+      y = i + lows (suc i)
+
+      is-one : f y ≡ 1
+      is-one = let e : suc i + lows (suc i) - 1 ≡ y = omega arith in omega (arith, one (suc i) (omega arith) l, ap f e)
+
+      none : (z : ℕ) → suc y ≤ z → z < x → f z ≡ 0
+      none z h g = between-zero (suc i) z l (omega arith) (λ p. omega arith) (λ p. omega (arith, before p))
+
+      last : (i ≤ a → y ≤ a + b → (1 ≤ i → i + lows i ≤ y) → (i < a → y ≤ i + lows (suc i)) → sum f y ≡ i) → sum f y ≡ i
+      last below =
+          below
+          (omega arith)
+          (omega (arith, most (suc i) (omega arith) l))
+          (λ p. omega (arith, rises i (suc i) p (omega arith) l))
+          (λ p. omega arith)
 
   pub vector-from-low : FromLow f lows a b
   vector-from-low = record {
     ones = ones;
     low = low;
-    high = λ i j i1 ia j1 jb h. places-cross f bits (a + b) i j i1 (omega (arith, ones)) j1 (omega (arith, ones)) (omega (arith, low i i1 ia));
-    high-back = λ i j i1 ia j1 jb h. rw (sym (low i i1 ia)) (places-cross-back f bits (a + b) i j i1 (omega (arith, ones)) j1 (omega (arith, ones)) h);
-    high-most = λ j j1 jb. omega (arith, ones, zero-place-low f bits (a + b) j j1 (omega (arith, ones)) .1);
+    high = λ i j i1 ia j1 jb h. places-cross f bits (a + b) i j i1 (in-ones ia) j1 (in-zeros jb) (omega (arith, low i i1 ia));
+    high-back = λ i j i1 ia j1 jb h. rw (sym (low i i1 ia)) (places-cross-back f bits (a + b) i j i1 (in-ones ia) j1 (in-zeros jb) h);
+    high-most = λ j j1 jb. omega (arith, ones, zero-place-low f bits (a + b) j j1 (in-zeros jb) .1);
   }
     where
       ones : sum f (a + b) ≡ a
       ones = between-ones a (a + b) (omega arith) (omega arith) (λ p. omega (arith, most a p (omega arith))) (λ p. absurd (omega arith))
+
+      in-ones : {i : ℕ} → i ≤ a → i ≤ sum f (a + b)
+      in-ones l = omega (arith, ones)
+
+      in-zeros : {j : ℕ} → j ≤ b → j ≤ a + b - sum f (a + b)
+      in-zeros l = omega (arith, ones)
+
       low : (i : ℕ) → 1 ≤ i → i ≤ a → placeOfOne f (a + b) i - i ≡ lows i
       low i pos l =
           let e : suc (i + lows i - 1) ≡ i + lows i = omega arith in
           let w : i + lows i ≤ a + b = omega (arith, most i pos l) in
-          let u : sum f (i + lows i) ≡ i = between-ones i (i + lows i) l w (λ p. omega arith) (λ p. omega (arith, rises i (suc i) pos (omega arith) p)) in
-          let o : f (i + lows i - 1) ≡ 1 = one i pos l in
-          omega (arith, one-place-is f bits (a + b) i (i + lows i - 1) (omega arith) o (omega (arith, sum-suc f (i + lows i - 1), ap (sum f) e)))
+          let next : i < a → i + lows i ≤ i + lows (suc i) = λ p. omega (arith, rises i (suc i) pos (omega arith) p) in
+          let upto : sum f (i + lows i) ≡ i = between-ones i (i + lows i) l w (λ p. omega arith) next in
+          let is-one : f (i + lows i - 1) ≡ 1 = one i pos l in
+          let before : sum f (i + lows i - 1) + 1 ≡ i = omega (arith, sum-suc f (i + lows i - 1), ap (sum f) e) in
+          omega (arith, one-place-is f bits (a + b) i (i + lows i - 1) (omega arith) is-one before)
