@@ -79,14 +79,14 @@ fn main() {
         let mut words = [7u64; 4];
         let mut dir = [9u16; 4];
         let mut work = [5u16; 40];
-        let b = index::build(n, k, &tracks[..n as usize], &needs[..c], &mut words, &mut dir, &mut work);
+        let b = build::build(n, k, &tracks[..n as usize], &needs[..c], &mut words, &mut dir, &mut work);
         let mut m = [0u8; 144];
         closure(&needs[..c], &mut m);
         let verdict = b.verdict;
         if fine(verdict) {
             accepted += 1;
             let h = b.head;
-            let j = index::judge(h, &tracks[..n as usize], &words, &dir);
+            let j = whole::judge(h, &tracks[..n as usize], &words, &dir);
             check::expect(j.fault == 0);
             let mut u = 1u16;
             while u <= n {

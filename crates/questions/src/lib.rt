@@ -31,7 +31,7 @@ pub fn spot(tracks: &[u16], u: u16) -> Spot
 // The first bit of vector p,q.
 pub fn offset(lens: &[u16; 32], row: &[u32; 33], p: usize, q: usize) -> usize
 {
-    row[p] as usize + index::row_room(lens, p, q)
+    row[p] as usize + layout::row_room(lens, p, q)
 }
 
 // Position i of track p needs position j of track q.
@@ -52,7 +52,7 @@ pub fn low_at(words: &[u64], directory: &[u16], lens: &[u16; 32], row: &[u32; 33
     }
     let off = offset(lens, row, p, q);
     let before = words::ones_before(words, directory, off);
-    words::place_of_one(words, directory, off, index::vector_room(lens, p, q), before, i) - i
+    words::place_of_one(words, directory, off, layout::vector_room(lens, p, q), before, i) - i
 }
 
 // high of position i of track p, in track q.
@@ -63,7 +63,7 @@ pub fn high_at(words: &[u64], directory: &[u16], lens: &[u16; 32], row: &[u32; 3
     }
     let off = offset(lens, row, q, p);
     let before = words::ones_before(words, directory, off);
-    words::place_of_zero(words, directory, off, index::vector_room(lens, q, p), before, i) - i + 1
+    words::place_of_zero(words, directory, off, layout::vector_room(lens, q, p), before, i) - i + 1
 }
 
 // low of position i of track p in each track.
@@ -359,7 +359,7 @@ fn pair_verdict(fault: u32, n: u16, u: u16, v: u16) -> Verdict
 // Kind 10: u needs v.
 pub fn needs(head: Head, tracks: &[u16], words: &[u64], directory: &[u16], u: u16, v: u16) -> PairAnswer
 {
-    let judged = index::judge(head, tracks, words, directory);
+    let judged = whole::judge(head, tracks, words, directory);
     let row = judged.row;
     let lens = head.lens;
     if let Verdict::Refused(refusal) = pair_verdict(judged.fault, head.n, u, v) {
@@ -375,7 +375,7 @@ pub fn needs(head: Head, tracks: &[u16], words: &[u64], directory: &[u16], u: u1
 // Kind 11: v is a direct step of u.
 pub fn is_step(head: Head, tracks: &[u16], words: &[u64], directory: &[u16], u: u16, v: u16) -> PairAnswer
 {
-    let judged = index::judge(head, tracks, words, directory);
+    let judged = whole::judge(head, tracks, words, directory);
     let row = judged.row;
     let lens = head.lens;
     if let Verdict::Refused(refusal) = pair_verdict(judged.fault, head.n, u, v) {
@@ -391,7 +391,7 @@ pub fn is_step(head: Head, tracks: &[u16], words: &[u64], directory: &[u16], u: 
 // Kind 12: the units that u needs, from the named place of the list on.
 pub fn needed(head: Head, tracks: &[u16], words: &[u64], directory: &[u16], u: u16, list: &mut [u16], place: usize) -> NumberAnswer
 {
-    let judged = index::judge(head, tracks, words, directory);
+    let judged = whole::judge(head, tracks, words, directory);
     let row = judged.row;
     let lens = head.lens;
     if let Verdict::Refused(refusal) = unit_verdict(judged.fault, head.n, u) {
@@ -403,7 +403,7 @@ pub fn needed(head: Head, tracks: &[u16], words: &[u64], directory: &[u16], u: u
 // Kind 13: the units that need u.
 pub fn needing(head: Head, tracks: &[u16], words: &[u64], directory: &[u16], u: u16, list: &mut [u16], place: usize) -> NumberAnswer
 {
-    let judged = index::judge(head, tracks, words, directory);
+    let judged = whole::judge(head, tracks, words, directory);
     let row = judged.row;
     let lens = head.lens;
     if let Verdict::Refused(refusal) = unit_verdict(judged.fault, head.n, u) {
@@ -415,7 +415,7 @@ pub fn needing(head: Head, tracks: &[u16], words: &[u64], directory: &[u16], u: 
 // Kind 14: the direct steps of u.
 pub fn steps(head: Head, tracks: &[u16], words: &[u64], directory: &[u16], u: u16, list: &mut [u16], place: usize) -> NumberAnswer
 {
-    let judged = index::judge(head, tracks, words, directory);
+    let judged = whole::judge(head, tracks, words, directory);
     let row = judged.row;
     let lens = head.lens;
     if let Verdict::Refused(refusal) = unit_verdict(judged.fault, head.n, u) {
@@ -427,7 +427,7 @@ pub fn steps(head: Head, tracks: &[u16], words: &[u64], directory: &[u16], u: u1
 // Kind 15: the units that have u as a direct step.
 pub fn steps_up(head: Head, tracks: &[u16], words: &[u64], directory: &[u16], u: u16, list: &mut [u16], place: usize) -> NumberAnswer
 {
-    let judged = index::judge(head, tracks, words, directory);
+    let judged = whole::judge(head, tracks, words, directory);
     let row = judged.row;
     let lens = head.lens;
     if let Verdict::Refused(refusal) = unit_verdict(judged.fault, head.n, u) {
@@ -439,7 +439,7 @@ pub fn steps_up(head: Head, tracks: &[u16], words: &[u64], directory: &[u16], u:
 // Kind 16: the stage of u.
 pub fn stage(head: Head, tracks: &[u16], words: &[u64], directory: &[u16], u: u16) -> NumberAnswer
 {
-    let judged = index::judge(head, tracks, words, directory);
+    let judged = whole::judge(head, tracks, words, directory);
     let row = judged.row;
     let lens = head.lens;
     if let Verdict::Refused(refusal) = unit_verdict(judged.fault, head.n, u) {
@@ -463,7 +463,7 @@ fn bound_verdict(fault: u32, n: u16, k: u16, u: u16, q: u16) -> Verdict
 // Kind 17: the unit at low(u, q), 0 if none.
 pub fn unit_low(head: Head, tracks: &[u16], words: &[u64], directory: &[u16], u: u16, q: u16) -> NumberAnswer
 {
-    let judged = index::judge(head, tracks, words, directory);
+    let judged = whole::judge(head, tracks, words, directory);
     let row = judged.row;
     let lens = head.lens;
     if let Verdict::Refused(refusal) = bound_verdict(judged.fault, head.n, head.k, u, q) {
@@ -475,7 +475,7 @@ pub fn unit_low(head: Head, tracks: &[u16], words: &[u64], directory: &[u16], u:
 // Kind 18: the unit at high(u, q), 0 if none.
 pub fn unit_high(head: Head, tracks: &[u16], words: &[u64], directory: &[u16], u: u16, q: u16) -> NumberAnswer
 {
-    let judged = index::judge(head, tracks, words, directory);
+    let judged = whole::judge(head, tracks, words, directory);
     let row = judged.row;
     let lens = head.lens;
     if let Verdict::Refused(refusal) = bound_verdict(judged.fault, head.n, head.k, u, q) {

@@ -57,9 +57,15 @@ pub record Index : Type 0 where
 unfoldable pub builtIndex : Listing → Index
 builtIndex c = record { head = builtHead c; tracks = c .tracks; words = builtWords c; directory = builtDirectory c }
 
--- the length of each track, by the head
+abbrev pub index : Head → List ℕ → List ℕ → List ℕ → Index
+index head tracks words directory = record { head = head; tracks = tracks; words = words; directory = directory }
+
+-- the length of each track, by a list of lengths and by the head
+abbrev pub lensOf : List ℕ → ℕ → ℕ
+lensOf lens q = getD lens q 0
+
 abbrev pub sizes : Index → ℕ → ℕ
-sizes x q = getD (x .head .lens) q 0
+sizes x = lensOf (x .head .lens)
 
 -- vector p,q among the words, for k tracks of lengths s
 unfoldable pub vectorOf : (ℕ → ℕ) → ℕ → List ℕ → ℕ → ℕ → ℕ → ℕ
@@ -85,41 +91,44 @@ highIn x u q = highAt (sizes x) (x .head .k) (x .words) (track (x .tracks) u) (p
 
 -- ---- whole: seven conditions, in document 01's order
 
-unfoldable pub inRange : Index → Bool
-inRange x = within 1 maxUnits (x .head .n) && within 1 maxTracks (x .head .k)
+unfoldable pub inRange : ℕ → ℕ → Bool
+inRange n k = within 1 maxUnits n && within 1 maxTracks k
 
-unfoldable pub tracksFit : Index → Bool
-tracksFit x = eqb (length (x .tracks)) (x .head .n) && every (λ i. ltb (getD (x .tracks) i 0) (x .head .k)) (x .head .n)
+unfoldable pub tracksFit : ℕ → ℕ → List ℕ → Bool
+tracksFit n k tracks = eqb (length tracks) n && every (λ i. ltb (getD tracks i 0) k) n
 
-unfoldable pub lengthsTrue : Index → Bool
-lengthsTrue x =
+-- the lengths are the counts in the track list, at least 1 for each track below k and 0 beyond
+unfoldable pub lengthsTrue : List ℕ → ℕ → List ℕ → Bool
+lengthsTrue lens k tracks =
     every
-    (λ q. eqb (sizes x q) (size (x .tracks) q) && cond (ltb q (x .head .k)) (leb 1 (sizes x q)) (eqb (sizes x q) 0))
+    (λ q. eqb (lensOf lens q) (size tracks q) && cond (ltb q k) (leb 1 (lensOf lens q)) (eqb (lensOf lens q) 0))
     maxTracks
 
--- W, by the head
-abbrev pub wordsOf : Index → ℕ
-wordsOf x = wordCount (sizes x) (x .head .k)
+unfoldable pub areasReach : (ℕ → ℕ) → ℕ → List ℕ → List ℕ → Bool
+areasReach s k words directory = leb (wordCount s k) (length words) && leb (wordCount s k) (length directory)
 
-unfoldable pub areasReach : Index → Bool
-areasReach x = leb (wordsOf x) (length (x .words)) && leb (wordsOf x) (length (x .directory))
+-- the bits past the vectors are 0
+unfoldable pub spareClear : (ℕ → ℕ) → ℕ → List ℕ → Bool
+spareClear s k words = every (λ i. eqb (bit words (roomBits s k + i)) 0) (64 * wordCount s k - roomBits s k)
 
-unfoldable pub spareClear : Index → Bool
-spareClear x =
-    every (λ i. eqb (bit (x .words) (roomBits (sizes x) (x .head .k) + i)) 0) (64 * wordsOf x - roomBits (sizes x) (x .head .k))
+unfoldable pub directoryTrue : (ℕ → ℕ) → ℕ → List ℕ → List ℕ → Bool
+directoryTrue s k words directory = every (λ j. eqb (getD directory j 0) (onesBefore words j)) (wordCount s k)
 
-unfoldable pub directoryTrue : Index → Bool
-directoryTrue x = every (λ j. eqb (getD (x .directory) j 0) (onesBefore (x .words) j)) (wordsOf x)
-
-unfoldable pub vectorsTrue : Index → Bool
-vectorsTrue x =
-    every
-    (λ p. every (λ q. eqb (sum (vector x p q) (vectorBits (sizes x) p q)) (cond (eqb p q) 0 (sizes x p))) (x .head .k))
-    (x .head .k)
+-- vector p,q has exactly as many ones as p has units
+unfoldable pub vectorsTrue : (ℕ → ℕ) → ℕ → List ℕ → Bool
+vectorsTrue s k words =
+    every (λ p. every (λ q. eqb (sum (vectorOf s k words p q) (vectorBits s p q)) (cond (eqb p q) 0 (s p))) k) k
 
 unfoldable pub conditions : Index → List Bool
 conditions x =
-    inRange x ∷ tracksFit x ∷ lengthsTrue x ∷ areasReach x ∷ spareClear x ∷ directoryTrue x ∷ vectorsTrue x ∷ []
+    inRange (x .head .n) (x .head .k)
+    ∷ tracksFit (x .head .n) (x .head .k) (x .tracks)
+    ∷ lengthsTrue (x .head .lens) (x .head .k) (x .tracks)
+    ∷ areasReach (sizes x) (x .head .k) (x .words) (x .directory)
+    ∷ spareClear (sizes x) (x .head .k) (x .words)
+    ∷ directoryTrue (sizes x) (x .head .k) (x .words) (x .directory)
+    ∷ vectorsTrue (sizes x) (x .head .k) (x .words)
+    ∷ []
 
 -- the number, from 1, of the first condition that fails, 0 where all hold
 unfoldable pub firstFailing : ℕ → List Bool → ℕ
