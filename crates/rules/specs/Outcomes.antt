@@ -106,18 +106,20 @@ pub record ListOutcome : Type 0 where
   pub list : List ℕ
 
 -- 10: fewer entries from the named place on than the answer has
-unfoldable pub listVerdict : Index → ℕ → List ℕ → List ℕ → ℕ → Verdict
-listVerdict x u units list at =
-    wholeVerdict x then unitVerdict x 1 u then unless (leb (at + length units) (length list)) (ShortList (length units))
+unfoldable pub listRoom : List ℕ → List ℕ → ℕ → Verdict
+listRoom units list at = unless (leb (at + length units) (length list)) (ShortList (length units))
 
 -- the area with the units from the named place on; every other entry is kept
 unfoldable pub writtenFrom : List ℕ → ℕ → List ℕ → List ℕ
 writtenFrom list at units = take at list ++ over (drop at list) units
 
-unfoldable pub listOutcome : Index → ℕ → List ℕ → List ℕ → ℕ → ListOutcome
-listOutcome x u units list at =
-    let v = listVerdict x u units list at in
+-- the units answered, or refused
+unfoldable pub listAnswer : Verdict → List ℕ → List ℕ → ℕ → ListOutcome
+listAnswer v units list at =
     record { answer = numberAnswer v (length units); list = unlessRefused v (writtenFrom list at units) list }
+
+unfoldable pub listOutcome : Index → ℕ → List ℕ → List ℕ → ℕ → ListOutcome
+listOutcome x u units list at = listAnswer (wholeVerdict x then unitVerdict x 1 u then listRoom units list at) units list at
 
 -- ---- the part of a need list that begins with a unit
 
