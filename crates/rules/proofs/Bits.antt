@@ -41,7 +41,7 @@ digit-low w m i h =
     (ap (λ (x : ℕ). x % 2) (field w (m - i - 1 + 1) i) ∙ mod-mod-pow (w / 2 ^ i) (m - i - 1) 1)
 
 -- the digit on top of m lower ones
-digit-high : (d m : ℕ) {r : ℕ} → d ≤ 1 → r < 2 ^ m → digit (d * 2 ^ m + r) m ≡ d
+pub digit-high : (d m : ℕ) {r : ℕ} → d ≤ 1 → r < 2 ^ m → digit (d * 2 ^ m + r) m ≡ d
 unfolding digit
 digit-high d m small h = rw (high d m h) (omega arith)
 

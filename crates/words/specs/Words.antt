@@ -1,11 +1,10 @@
--- A word or a list of words with one bit changed, and what the directory must say of the words that a search looks at.
-use Prim.Native.Nat.{ℕ, suc, _+_, _-_, _*_, _/_, _%_, _^_, _≤_, _<_}
+-- A word or a list of words with one bit changed, what the directory must say of the words that a search looks at, and what the search finds.
+use Prim.Native.Nat.{ℕ, _+_, _-_, _*_, _/_, _%_, _^_, _≤_, _<_}
 use mathlib.Core.Path.{_≡_}
 use mathlib.Core.List.{List}
 use lib.ListN.{length, getD, set}
 use lib.Count.{ones}
-use Rattle.rules.specs.Ranges.{sum}
-use Rattle.rules.specs.Bits.{digit, bit, rank, onesBefore}
+use Rattle.rules.specs.Bits.{digit, onesBefore}
 
 -- the word w with bit i now b, which is 0 or 1
 unfoldable pub withDigit : ℕ → ℕ → ℕ → ℕ
@@ -32,3 +31,18 @@ pub record Covers (ws ds : List ℕ) (off m : ℕ) : Type 0 where
   pub some-bits : 0 < m
   pub narrow : off + m ≤ 64 * 4096
   pub at-each : (j : ℕ) → off / 64 ≤ j → 64 * j < off + m → TrueAt ws ds j
+
+-- the i-th 1 of the word w is the left-th 1 among the lowest span bits of part, which is w without its lowest at bits
+pub record Seeks (w i part left at span : ℕ) : Type 0 where
+  pub rest : part ≡ w / 2 ^ at
+  pub passed : ones (w % 2 ^ at) + left ≡ i
+  pub some : 1 ≤ left
+  pub among : left ≤ ones (part % 2 ^ span)
+  pub narrow : at + span ≤ 64
+
+-- word j is among those from lo to hi, fewer than t stand before it, and t or more before the next of them
+pub record LastBelow (before : ℕ → ℕ) (lo hi t j : ℕ) : Type 0 where
+  pub from-lo : lo ≤ j
+  pub to-hi : j ≤ hi
+  pub fewer : before j < t
+  pub enough : j < hi → t ≤ before (j + 1)

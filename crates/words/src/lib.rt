@@ -5,7 +5,7 @@ ghost use lib.ListN.{length, getD};
 ghost use lib.Count.{ones};
 ghost use Rattle.rules.specs.Ranges.{sum, table, over};
 ghost use Rattle.rules.specs.Bits.{bit, onesBefore, rank, placeOfOne, placeOfZero};
-ghost use Rattle.words.specs.Words.{withBit, IsOne, TrueAt, Covers};
+ghost use Rattle.words.specs.Words.{withBit, IsOne, TrueAt, Covers, Seeks, LastBelow};
 
 // ---- one bit
 
@@ -85,7 +85,10 @@ pub struct Part {
 }
 
 // One halving: the 1 is among the lowest width bits, or past them.
-fn halved(part: Part, width: u32) -> Part {
+fn halved(part: Part, width: u32) -> Part
+    requires { ⌜ (part .at ≤ 64) × (width ≤ 32) ⌝ }
+    ensures { λ r. ⌜ ((w i : ℕ) → Seeks w i (part .word) (part .left) (part .at) (2 * width) → Seeks w i (r .word) (r .left) (r .at) width) ⌝ }
+{
     let low = u64::count_ones(part.word & ((1u64 << width) - 1));
     if part.left <= low {
         part
@@ -103,7 +106,11 @@ pub fn one_in_word(w: u64, i: u32) -> u32
     requires { ⌜ (1 ≤ i) × (i ≤ ones w) ⌝ }
     ensures { λ r. ⌜ IsOne w i r ⌝ }
 {
-    let mut part = Part { word: w, left: i, at: 0 };
+    let mut part = Part {
+        word: w,
+        left: i,
+        at: 0,
+    };
     let mut width: u32 = 32;
     while 0 < width {
         part = halved(part, width);
@@ -113,7 +120,11 @@ pub fn one_in_word(w: u64, i: u32) -> u32
 }
 
 // The last word from lo to hi with fewer than t ones before it.
-fn word_of_one(directory: &[u16], lo: usize, hi: usize, t: usize) -> usize {
+fn word_of_one(directory: &[u16], lo: usize, hi: usize, t: usize) -> usize
+    requires { ⌜ (lo ≤ hi) × (hi < length (now directory)) ⌝ }
+    requires { ⌜ getD (now directory) lo 0 < t ⌝ }
+    ensures { λ r. ⌜ LastBelow (λ j. getD (now (directory .entry)) j 0) lo hi t r ⌝ }
+{
     let mut a = lo;
     let mut b = hi;
     while a < b {
@@ -128,7 +139,12 @@ fn word_of_one(directory: &[u16], lo: usize, hi: usize, t: usize) -> usize {
 }
 
 // The last word from lo to hi with fewer than t zeros before it.
-fn word_of_zero(directory: &[u16], lo: usize, hi: usize, t: usize) -> usize {
+fn word_of_zero(directory: &[u16], lo: usize, hi: usize, t: usize) -> usize
+    requires { ⌜ (lo ≤ hi) × (hi < length (now directory)) × (hi < 4096) ⌝ }
+    requires { ⌜ ((j : ℕ) → lo ≤ j → j ≤ hi → getD (now directory) j 0 ≤ 64 * j) ⌝ }
+    requires { ⌜ 64 * lo - getD (now directory) lo 0 < t ⌝ }
+    ensures { λ r. ⌜ LastBelow (λ j. 64 * j - getD (now (directory .entry)) j 0) lo hi t r ⌝ }
+{
     let mut a = lo;
     let mut b = hi;
     while a < b {
@@ -143,7 +159,14 @@ fn word_of_zero(directory: &[u16], lo: usize, hi: usize, t: usize) -> usize {
 }
 
 // The place, from 1, of the i-th 1 of the vector of m bits from bit off on, before which stand the given ones.
-pub fn place_of_one(words: &[u64], directory: &[u16], off: usize, m: usize, before: usize, i: usize) -> usize
+pub fn place_of_one(
+    words: &[u64],
+    directory: &[u16],
+    off: usize,
+    m: usize,
+    before: usize,
+    i: usize,
+) -> usize
     requires { ⌜ Covers (now words) (now directory) off m ⌝ }
     requires { ⌜ before ≡ rank (now words) off ⌝ }
     requires { ⌜ (1 ≤ i) × (i ≤ sum (λ y. bit (now words) (off + y)) m) ⌝ }
@@ -156,7 +179,14 @@ pub fn place_of_one(words: &[u64], directory: &[u16], off: usize, m: usize, befo
 }
 
 // The place, from 1, of the i-th 0 of the vector of m bits from bit off on, before which stand the given ones.
-pub fn place_of_zero(words: &[u64], directory: &[u16], off: usize, m: usize, before: usize, i: usize) -> usize
+pub fn place_of_zero(
+    words: &[u64],
+    directory: &[u16],
+    off: usize,
+    m: usize,
+    before: usize,
+    i: usize,
+) -> usize
     requires { ⌜ Covers (now words) (now directory) off m ⌝ }
     requires { ⌜ before ≡ rank (now words) off ⌝ }
     requires { ⌜ (1 ≤ i) × (i ≤ m - sum (λ y. bit (now words) (off + y)) m) ⌝ }

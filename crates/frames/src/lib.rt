@@ -1,0 +1,208 @@
+// Lines of a course file read as frames, and answers printed into a lent line area.
+use rules::NumberAnswer;
+use rules::PairAnswer;
+use rules::Refusal;
+ghost use Prim.Native.Nat.{_+_, _*_, _≤_, _<_};
+ghost use mathlib.Core.Path.{_≡_};
+ghost use mathlib.Core.List.{_++_, _∷_, []};
+ghost use lib.ListN.{length, take};
+ghost use Rattle.rules.specs.Ranges.{over};
+ghost use Rattle.frames.specs.Lines.{digitOf, numbersOf, lineOf};
+ghost use Rattle.frames.specs.Printed.{hexDigit, hexOf, builtLine, refusedLine, pairLine, numberLine, unitsOf, listLine};
+
+// ---- reading
+
+// A frame: two digits of kind, and two numbers.
+pub struct Frame {
+    pub kind: u8,
+    pub a: u16,
+    pub b: u16,
+}
+
+// What a line is.
+pub enum Line {
+    IsFrame(Frame),
+    NoFrame,
+}
+
+// Eight digits read as two numbers, or not digits.
+pub enum Numbers {
+    Two(u16, u16),
+    NotDigits,
+}
+
+// What a digit stands for, 16 where the byte is none.
+fn digit(b: u8) -> u8
+    ensures { λ r. ⌜ r ≡ digitOf b ⌝ }
+{
+    if 48 <= b && b <= 57 {
+        b - 48
+    } else if 97 <= b && b <= 102 {
+        b - 87
+    } else {
+        16
+    }
+}
+
+// The number that four digits spell, 65,536 where one is no digit.
+fn four(a: u8, b: u8, c: u8, d: u8) -> u32
+{
+    let w = digit(a) as u32;
+    let x = digit(b) as u32;
+    let y = digit(c) as u32;
+    let z = digit(d) as u32;
+    if 15 < w || 15 < x || 15 < y || 15 < z {
+        return 65536;
+    }
+    ((w * 16 + x) * 16 + y) * 16 + z
+}
+
+// The two numbers after the kind.
+fn read_numbers(part: &[u8]) -> Numbers
+    requires { ⌜ 8 ≤ length (now part) ⌝ }
+    ensures { λ r. ⌜ r ≡ numbersOf (now (part .entry)) ⌝ }
+{
+    let a = four(part[0], part[1], part[2], part[3]);
+    let b = four(part[4], part[5], part[6], part[7]);
+    if 65535 < a || 65535 < b {
+        return Numbers::NotDigits;
+    }
+    Numbers::Two(a as u16, b as u16)
+}
+
+// Reads a line, its line feed included.
+pub fn read_line(line: &[u8]) -> Line
+    ensures { λ r. ⌜ r ≡ lineOf (now (line .entry)) ⌝ }
+{
+    if line.len() != 11 || line[10] != 10 {
+        return Line::NoFrame;
+    }
+    let high = digit(line[0]);
+    let low = digit(line[1]);
+    if 15 < high || 15 < low {
+        return Line::NoFrame;
+    }
+    let Numbers::Two(a, b) = read_numbers(&line[2..]) else {
+        return Line::NoFrame;
+    };
+    Line::IsFrame(Frame { kind: high * 16 + low, a, b })
+}
+
+// ---- printing: each call fills the start of the area, keeps the rest, and answers how many bytes it wrote
+
+fn hex_digit(d: u32) -> u8
+    requires { ⌜ d < 16 ⌝ }
+    ensures { λ r. ⌜ r ≡ hexDigit d ⌝ }
+{
+    if d < 10 { 48 + d as u8 } else { 87 + d as u8 }
+}
+
+// Writes w digits of x.
+fn put_hex(out: &mut [u8], w: usize, x: u32)
+    requires { ⌜ w ≤ length (now out) ⌝ }
+    ensures { λ _. ⌜ now (out .exit) ≡ over (now (out .entry)) (hexOf w x) ⌝ }
+{
+    let mut y = x;
+    let mut i = w;
+    while 0 < i {
+        i -= 1;
+        out[i] = hex_digit(y % 16);
+        y /= 16;
+    }
+}
+
+pub fn put_built(out: &mut [u8], bits: u32) -> usize
+    requires { ⌜ 20 ≤ length (now out) ⌝ }
+    ensures { λ r. ⌜ (r ≡ 15) × (now (out .exit) ≡ over (now (out .entry)) (builtLine bits)) ⌝ }
+{
+    out[0] = 98;
+    out[1] = 117;
+    out[2] = 105;
+    out[3] = 108;
+    out[4] = 116;
+    out[5] = 32;
+    put_hex(&mut out[6..], 8, bits);
+    out[14] = 10;
+    15
+}
+
+pub fn put_refused(out: &mut [u8], refusal: Refusal) -> usize
+    requires { ⌜ 20 ≤ length (now out) ⌝ }
+    ensures { λ r. ⌜ (r ≡ 20) × (now (out .exit) ≡ over (now (out .entry)) (refusedLine refusal)) ⌝ }
+{
+    out[0] = 114;
+    out[1] = 101;
+    out[2] = 102;
+    out[3] = 117;
+    out[4] = 115;
+    out[5] = 101;
+    out[6] = 100;
+    out[7] = 32;
+    let number = rules::number(refusal);
+    out[8] = 48 + number / 10 % 10;
+    out[9] = 48 + number % 10;
+    out[10] = 32;
+    put_hex(&mut out[11..], 8, rules::place(refusal));
+    out[19] = 10;
+    20
+}
+
+pub fn put_pair(out: &mut [u8], answer: PairAnswer) -> usize
+    requires { ⌜ 20 ≤ length (now out) ⌝ }
+    ensures { λ r. ⌜ (r ≡ length (pairLine answer)) × (now (out .exit) ≡ over (now (out .entry)) (pairLine answer)) ⌝ }
+{
+    match answer {
+        PairAnswer::Yes => {
+            out[0] = 121;
+            out[1] = 101;
+            out[2] = 115;
+            out[3] = 10;
+            4
+        }
+        PairAnswer::No => {
+            out[0] = 110;
+            out[1] = 111;
+            out[2] = 10;
+            3
+        }
+        PairAnswer::Refused(refusal) => put_refused(out, refusal),
+    }
+}
+
+pub fn put_number(out: &mut [u8], answer: NumberAnswer) -> usize
+    requires { ⌜ 20 ≤ length (now out) ⌝ }
+    ensures { λ r. ⌜ (r ≡ length (numberLine answer)) × (now (out .exit) ≡ over (now (out .entry)) (numberLine answer)) ⌝ }
+{
+    match answer {
+        NumberAnswer::Number(x) => {
+            put_hex(out, 4, x as u32);
+            out[4] = 10;
+            5
+        }
+        NumberAnswer::Refused(refusal) => put_refused(out, refusal),
+    }
+}
+
+// Writes each unit with a space before it.
+fn put_units(out: &mut [u8], units: &[u16])
+    requires { ⌜ 5 * length (now units) ≤ length (now out) ⌝ }
+    ensures { λ _. ⌜ now (out .exit) ≡ over (now (out .entry)) (unitsOf (now (units .entry))) ⌝ }
+{
+    let mut i: usize = 0;
+    while i < units.len() {
+        out[5 * i] = 32;
+        put_hex(&mut out[5 * i + 1..], 4, units[i] as u32);
+        i += 1;
+    }
+}
+
+pub fn put_list(out: &mut [u8], units: &[u16]) -> usize
+    requires { ⌜ (length (now units) ≤ 1024) × (5 * length (now units) + 5 ≤ length (now out)) ⌝ }
+    ensures { λ r. ⌜ (r ≡ 5 * length (now (units .entry)) + 5) × (now (out .exit) ≡ over (now (out .entry)) (listLine (now (units .entry)))) ⌝ }
+{
+    put_hex(out, 4, units.len() as u32);
+    put_units(&mut out[4..], units);
+    let end = 4 + 5 * units.len();
+    out[end] = 10;
+    end + 1
+}
