@@ -1,20 +1,28 @@
 // Where the vectors stand among the bits, from the lengths of the tracks.
-ghost use Prim.Native.Nat.{_≤_, _<_};
+ghost use Prim.Native.Nat.{_*_, _≤_, _<_};
 ghost use mathlib.Core.Path.{_≡_};
 ghost use Rattle.rules.specs.Ranges.{sum};
 ghost use Rattle.rules.specs.Layout.{vectorRoom};
 ghost use Rattle.rules.specs.Index.{lensOf};
 ghost use Rattle.layout.specs.Starts.{rowStarts};
 
+// A length as a number of bits.
+fn wide(length: u16) -> usize
+    ensures { λ r. ⌜ (r ≡ length) × (r < 65536) ⌝ }
+{
+    length as usize
+}
+
 // The bits of vector p,q, which starts where the one before it ends; none for a track with itself.
 pub fn vector_room(lens: &[u16; 32], p: usize, q: usize) -> usize
     requires { ⌜ (p < 32) × (q < 32) ⌝ }
     ensures { λ r. ⌜ r ≡ vectorRoom (lensOf (now (lens .entry))) p q ⌝ }
+    ensures narrow { λ r. ⌜ r ≤ 131072 ⌝ }
 {
     if p == q {
         0
     } else {
-        lens[p] as usize + lens[q] as usize
+        wide(lens[p]) + wide(lens[q])
     }
 }
 
@@ -22,6 +30,7 @@ pub fn vector_room(lens: &[u16; 32], p: usize, q: usize) -> usize
 pub fn row_room(lens: &[u16; 32], p: usize, end: usize) -> usize
     requires { ⌜ (p < 32) × (end ≤ 32) ⌝ }
     ensures { λ r. ⌜ r ≡ sum (vectorRoom (lensOf (now (lens .entry))) p) end ⌝ }
+    ensures narrow { λ r. ⌜ r ≤ 131072 * end ⌝ }
 {
     let mut bits: usize = 0;
     let mut q: usize = 0;

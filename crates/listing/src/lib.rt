@@ -104,7 +104,12 @@ fn pair_out_of_order(needs: &[u16]) -> usize
     }
     let mut i: usize = 1;
     while i < pairs {
-        if !is_above(needs[2 * i], needs[2 * i + 1], needs[2 * i - 2], needs[2 * i - 1]) {
+        if !is_above(
+            needs[2 * i],
+            needs[2 * i + 1],
+            needs[2 * i - 2],
+            needs[2 * i - 1],
+        ) {
             return i;
         }
         i += 1;
@@ -119,10 +124,10 @@ pub fn pairs_verdict(n: u16, needs: &[u16]) -> Verdict
 {
     let pairs = needs.len() / 2;
     let bad = bad_pair(n, needs);
+    let late = pair_out_of_order(needs);
     if bad < pairs {
         return Verdict::Refused(Refusal::BadPair(bad as u32));
     }
-    let late = pair_out_of_order(needs);
     if late < pairs {
         return Verdict::Refused(Refusal::PairOrder(late as u32));
     }

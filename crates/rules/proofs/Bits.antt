@@ -6,11 +6,12 @@ use mathlib.Core.List.{List}
 use mathlib.Core.Logic.{_⊎_, inl, inr}
 use native.Mathlib.Omega.{arith}
 use native.Mathlib.Numerals.{add-one}
-use native.Mathlib.Nat.{mod-lt, mod-one, mod-eq-of-lt, add-comm, mul-one, pow-suc, mul-le-mul-right}
+use native.Mathlib.Decide.{decLt}
+use native.Mathlib.Nat.{mod-lt, mod-le, mod-one, div-eq-of-lt, div-add-mod', mod-eq-of-lt, add-comm, mul-one, pow-suc, mul-le-mul-right}
 use lib.ListN.{length, getD}
 use lib.Seq.{ext-getD}
 use lib.Dec.{leb}
-use lib.Pow.{pow-pos, mod-pow-add, field, mod-mod-pow, high, low}
+use lib.Pow.{pow-pos, pow-mono, mod-pow-add, field, mod-mod-pow, high, low}
 use lib.Count.{ones, ones-cat}
 use borrow.Author.Tests.{le-leb, lt-leb}
 use Rattle.rules.specs.Ranges.{sum}
@@ -66,6 +67,23 @@ mod-same v w (suc k) h =
 -- a word is its digits
 pub digits-same : (v w : ℕ) → v < 2 ^ 64 → w < 2 ^ 64 → ((i : ℕ) → i < 64 → digit v i ≡ digit w i) → v ≡ w
 digits-same v w hv hw h = sym (mod-eq-of-lt hv) ∙ mod-same v w 64 h ∙ mod-eq-of-lt hw
+
+-- a word shifted by r to 0 has no 1 from bit r on
+pub digits-none : (w r i : ℕ) → w / 2 ^ r ≡ 0 → r ≤ i → digit w i ≡ 0
+unfolding digit
+digits-none w r i e h =
+    let d : 0 * 2 ^ r + w % 2 ^ r ≡ w = rw e at (div-add-mod' w (2 ^ r)) in
+    let l : w < 2 ^ i = omega (arith, mod-lt w (pow-pos r), pow-mono h) in
+    rw (div-eq-of-lt l)
+
+-- and a word with no 1 from bit r on is shifted by r to 0
+pub none-digits : (w r : ℕ) → w < 2 ^ 64 → ((i : ℕ) → r ≤ i → i < 64 → digit w i ≡ 0) → w / 2 ^ r ≡ 0
+none-digits w r small none = div-eq-of-lt (omega (arith, mod-lt w (pow-pos r), digits-same w (w % 2 ^ r) small (omega (arith, mod-le w (2 ^ r))) (λ i l. same i l (decLt i r))))
+  where
+    same : (i : ℕ) → i < 64 → Dec (i < r) → digit w i ≡ digit (w % 2 ^ r) i
+    same i l (yes b) = sym (digit-low w r i b)
+    same i l (no n) =
+        none i (omega arith) l ∙ sym (digits-none (w % 2 ^ r) r i (div-eq-of-lt (mod-lt w (pow-pos r))) (omega arith))
 
 -- ---- words made of bits
 

@@ -1,5 +1,5 @@
 -- Where each vector stands: a vector starts where the room before it ends, so no two rooms meet and each bit has one home; and the bits and words in all.
--- All of it is read off the sums of the layout. Only room-holds, room-meant and room-same know what a room is.
+-- All of it is read off the sums of the layout. Only room-holds, room-is, room-meant and room-same know what a room is.
 -- Assumes nothing.
 use Prim.Native.Nat.{ℕ, zero, suc, _+_, _-_, _*_, _≤_, _<_}
 use mathlib.Core.Path.{_≡_, refl, sym, ap}
@@ -80,6 +80,11 @@ module _ (s : ℕ → ℕ) (k : ℕ) where
   unfolding offset
   offset-row p = omega (arith, sum-next (rowRoom s k) p, sum-none (vectorRoom s (p + 1)))
 
+  -- the vectors p,q′ before p,q stand between
+  pub offset-add : (p q : ℕ) → offset s k p q ≡ offset s k p 0 + sum (vectorRoom s p) q
+  unfolding offset
+  offset-add p q = omega (arith, sum-none (vectorRoom s p))
+
   pub offset-last : offset s k k 0 ≡ roomBits s k
   unfolding offset roomBits
   offset-last = omega (arith, sum-none (vectorRoom s k))
@@ -150,6 +155,11 @@ module _ (s : ℕ → ℕ) where
   pub room-holds : (p q : ℕ) → vectorBits s p q ≤ vectorRoom s p q
   unfolding vectorRoom
   room-holds p q = omega arith
+
+  -- no room is left between vectors
+  pub room-is : (p q : ℕ) → vectorRoom s p q ≡ vectorBits s p q
+  unfolding vectorRoom
+  room-is p q = refl
 
   pub meant-room : (k : ℕ) → meantBits s k ≤ roomBits s k
   unfolding meantBits roomBits
@@ -258,10 +268,15 @@ module _ (s : ℕ → ℕ) where
           let e : q - 0 ≡ q = omega arith in
           rw (le-ltb p q (omega arith), e) (omega (arith, r′, sum-const (s p) q))
 
+  pub ones-in-row : (k p : ℕ) → p < k → sum (onesIn s p) k ≡ (k - 1) * s p
+  ones-in-row k p h = rw (ones-row p k, lt-ltb p k h)
+
   -- each track before p has k - 1 vectors, and track p those before p,q
   pub ones-to : (k p q : ℕ) → p ≤ k → onesTo s k p q ≡ (k - 1) * sum s p + (q - bit1 (ltb p q)) * s p
   ones-to k p q l =
-      omega (arith, sum-same (λ p′. sum (onesIn s p′) k) (λ p′. (k - 1) * s p′) p row, ones-row p q, sum-times (k - 1) s p)
-    where
-      row : (p′ : ℕ) → p′ < p → sum (onesIn s p′) k ≡ (k - 1) * s p′
-      row p′ h = rw (ones-row p′ k, lt-ltb p′ k (omega arith))
+      omega (
+        arith,
+        sum-same (λ p′. sum (onesIn s p′) k) (λ p′. (k - 1) * s p′) p (λ p′ h. ones-in-row k p′ (omega arith)),
+        ones-row p q,
+        sum-times (k - 1) s p,
+      )

@@ -11,4 +11,5 @@ pub mod Steps
 pub mod Accepted
 pub mod Tracks
 pub mod Bounds
+pub mod Wholes
 pub mod Bench

@@ -291,6 +291,14 @@ module _ (p : ℕ → Bool) where
           let r : first p m ≡ i = below h in
           rw (lt-ltb (first p m) m (omega arith)) r
 
+  -- none before it passes, and it passes or is the end
+  pub first-at : (m i : ℕ) → i ≤ m → ((j : ℕ) → j < i → p j ≡ false) → (i < m → p i ≡ true) → first p m ≡ i
+  first-at m i l b t = go (decLt i m)
+    where
+      go : Dec (i < m) → first p m ≡ i
+      go (yes h) = first-is m i h b (t h)
+      go (no n) = let e : i ≡ m = omega arith in first-none m (λ j h. b j (omega arith)) ∙ sym e
+
   -- none before the first passes
   pub first-before : (m j : ℕ) → j < first p m → p j ≡ false
   unfolding first

@@ -7,7 +7,7 @@ use mathlib.Core.Logic.{_⊎_, inl, inr}
 use native.Mathlib.Omega.{arith}
 use native.Mathlib.Decide.{decLt}
 use lib.Dec.{leb}
-use borrow.Author.Tests.{lt-ltb, le-ltb, le-leb, leb-true}
+use borrow.Author.Tests.{lt-ltb, le-ltb, le-leb, lt-leb, leb-true}
 use Rattle.rules.specs.declared.Refusal.{Refusal}
 use Rattle.rules.specs.declared.Verdict.{Verdict}
 use Rattle.rules.specs.declared.Verdict.the-variants.{Fine, Refused}
@@ -65,6 +65,10 @@ within-is a b x h =
 pub is-within : {a b x : ℕ} → a ≤ x → x ≤ b → within a b x ≡ true
 is-within {a} {b} {x} l h = both-and (le-leb a x l) (le-leb x b h)
 
+pub not-within : (a b x : ℕ) → (x < a) ⊎ (b < x) → within a b x ≡ false
+not-within a b x (inl l) = no-and (leb x b) (lt-leb a x l)
+not-within a b x (inr l) = and-no (leb a x) (lt-leb x b l)
+
 -- ---- one check after another
 
 pub refused-fine : {r : Refusal} → Refused r ≡ Fine → ⊥
@@ -109,3 +113,12 @@ module _ (bad : ℕ → Bool) (m : ℕ) (refusal : ℕ → Refusal) where
       go : Dec (first bad m < m) → bad i ≡ false
       go (yes f) = absurd (refused-fine (rw (lt-ltb (first bad m) m f) at h))
       go (no n) = first-before bad m i (omega arith)
+
+  -- the same, of a number that is known to be the first
+  pub refuse-at : (i : ℕ) → i ≡ first bad m → i < m → refuseFirst bad m refusal ≡ Refused (refusal i)
+  unfolding refuseFirst
+  refuse-at i e l = rw (sym e, lt-ltb i m l)
+
+  pub refuse-end : (i : ℕ) → i ≡ first bad m → m ≤ i → refuseFirst bad m refusal ≡ Fine
+  unfolding refuseFirst
+  refuse-end i e l = rw (sym e, le-ltb i m l)

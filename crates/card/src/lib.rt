@@ -1,0 +1,336 @@
+// A course file read line by line: the order of frames, the listing it fills, the index it builds and the questions it asks.
+use frames::Frame;
+use frames::Line;
+use rules::NumberAnswer;
+use rules::PairAnswer;
+use rules::Refusal;
+use rules::Verdict;
+
+// Where in the order of frames a file stands.
+pub enum Phase {
+    // 01 comes next
+    Head,
+    // 02 for the next unit
+    Tracks,
+    // 03, or 04
+    Needs,
+    // a question
+    Asking,
+    // nothing more is read
+    Stopped,
+}
+
+// What has been read. The listing itself lies in the lent areas: `units` tracks and `pairs` needs; and once it is built, `count` words.
+pub struct Card {
+    pub phase: Phase,
+    pub lines: u32,
+    pub n: u16,
+    pub k: u16,
+    pub units: usize,
+    pub pairs: usize,
+    pub count: usize,
+    pub lens: [u16; 32],
+    pub row: [u32; 33],
+}
+
+// A card after a line, and how many bytes were printed for it.
+pub struct Step {
+    pub card: Card,
+    pub wrote: usize,
+}
+
+// A card before its first line.
+pub fn start() -> Card
+{
+    Card {
+        phase: Phase::Head,
+        lines: 0,
+        n: 0,
+        k: 0,
+        units: 0,
+        pairs: 0,
+        count: 0,
+        lens: [0u16; 32],
+        row: [0u32; 33],
+    }
+}
+
+// The card with another phase.
+fn in_phase(card: Card, phase: Phase) -> Card
+{
+    let lens = card.lens;
+    let row = card.row;
+    Card {
+        phase,
+        lines: card.lines,
+        n: card.n,
+        k: card.k,
+        units: card.units,
+        pairs: card.pairs,
+        count: card.count,
+        lens,
+        row,
+    }
+}
+
+// The refusal is printed, and nothing more is read.
+fn refuse(card: Card, refusal: Refusal, out: &mut [u8]) -> Step
+{
+    let wrote = frames::put_refused(out, refusal);
+    Step { card: in_phase(card, Phase::Stopped), wrote }
+}
+
+// A frame that is not allowed here.
+fn misplaced(card: Card, out: &mut [u8]) -> Step
+{
+    refuse(card, Refusal::FrameOrder(card.lines), out)
+}
+
+// ---- the frames before the questions
+
+fn head_frame(card: Card, n: u16, k: u16, out: &mut [u8]) -> Step
+{
+    if n == 0 || rules::MAX_UNITS < n || k == 0 || rules::MAX_TRACKS < k {
+        return refuse(card, Refusal::OutOfLimits, out);
+    }
+    let mut next = in_phase(card, Phase::Tracks);
+    next.n = n;
+    next.k = k;
+    Step { card: next, wrote: 0 }
+}
+
+fn track_frame(card: Card, unit: u16, track: u16, tracks: &mut [u16], out: &mut [u8]) -> Step
+{
+    let units = card.units;
+    if unit as usize != units + 1 {
+        return misplaced(card, out);
+    }
+    tracks[units] = track;
+    let phase = if unit == card.n { Phase::Needs } else { Phase::Tracks };
+    let mut next = in_phase(card, phase);
+    next.units = units + 1;
+    Step { card: next, wrote: 0 }
+}
+
+fn need_frame(card: Card, u: u16, v: u16, needs: &mut [u16], out: &mut [u8]) -> Step
+{
+    let pairs = card.pairs;
+    if pairs == rules::MAX_NEEDS {
+        return refuse(card, Refusal::OutOfLimits, out);
+    }
+    needs[2 * pairs] = u;
+    needs[2 * pairs + 1] = v;
+    let mut next = card;
+    next.pairs = pairs + 1;
+    Step { card: next, wrote: 0 }
+}
+
+fn end_frame(card: Card, count: u16, filler: u16, tracks: &[u16], needs: &[u16], words: &mut [u64], directory: &mut [u16], work: &mut [u16], out: &mut [u8]) -> Step
+{
+    let units = card.units;
+    let numbers = 2 * card.pairs;
+    if count as usize != card.pairs || filler != 0 {
+        return misplaced(card, out);
+    }
+    let built = build::build(card.n, card.k, &tracks[..units], &needs[..numbers], words, directory, work);
+    let verdict = built.verdict;
+    if let Verdict::Refused(refusal) = verdict {
+        return refuse(card, refusal, out);
+    }
+    let lens = built.head.lens;
+    let k = card.k as usize;
+    let row = layout::row_starts(&lens, k);
+    let wrote = frames::put_built(out, built.bits);
+    let mut next = in_phase(card, Phase::Asking);
+    next.count = (row[k] as usize + 63) / 64;
+    next.lens = lens;
+    next.row = row;
+    Step { card: next, wrote }
+}
+
+// ---- the questions
+
+fn pair_answer(card: Card, direct: bool, u: u16, v: u16, tracks: &[u16], words: &[u64], directory: &[u16]) -> PairAnswer
+{
+    let lens = card.lens;
+    let row = card.row;
+    let k = card.k as usize;
+    if u == 0 || card.n < u {
+        return PairAnswer::Refused(Refusal::BadArgument(1));
+    }
+    if v == 0 || card.n < v {
+        return PairAnswer::Refused(Refusal::BadArgument(2));
+    }
+    let yes = if direct {
+        questions::step_known(tracks, words, directory, &lens, &row, k, u, v)
+    } else {
+        questions::needs_known(tracks, words, directory, &lens, &row, k, u, v)
+    };
+    if yes { PairAnswer::Yes } else { PairAnswer::No }
+}
+
+fn list_answer(card: Card, kind: u8, u: u16, tracks: &[u16], words: &[u64], directory: &[u16], list: &mut [u16]) -> NumberAnswer
+{
+    let lens = card.lens;
+    let row = card.row;
+    let k = card.k as usize;
+    if u == 0 || card.n < u {
+        return NumberAnswer::Refused(Refusal::BadArgument(1));
+    }
+    if kind == 0x12 {
+        return questions::needed_known(tracks, words, directory, &lens, &row, k, u, list, 0);
+    }
+    if kind == 0x13 {
+        return questions::needing_known(tracks, words, directory, &lens, &row, k, u, list, 0);
+    }
+    if kind == 0x14 {
+        return questions::steps_known(tracks, words, directory, &lens, &row, k, u, list, 0);
+    }
+    questions::steps_up_known(tracks, words, directory, &lens, &row, k, u, list, 0)
+}
+
+fn number_answer(card: Card, kind: u8, u: u16, q: u16, tracks: &[u16], words: &[u64], directory: &[u16]) -> NumberAnswer
+{
+    let lens = card.lens;
+    let row = card.row;
+    let k = card.k as usize;
+    if u == 0 || card.n < u {
+        return NumberAnswer::Refused(Refusal::BadArgument(1));
+    }
+    if kind == 0x16 {
+        return NumberAnswer::Number(questions::stage_known(tracks, words, directory, &lens, &row, k, u));
+    }
+    if card.k <= q {
+        return NumberAnswer::Refused(Refusal::BadArgument(2));
+    }
+    if kind == 0x17 {
+        return NumberAnswer::Number(questions::unit_low_known(tracks, words, directory, &lens, &row, k, u, q));
+    }
+    NumberAnswer::Number(questions::unit_high_known(tracks, words, directory, &lens, &row, k, u, q))
+}
+
+fn put_answer(answer: NumberAnswer, list: &[u16], out: &mut [u8]) -> usize
+{
+    match answer {
+        NumberAnswer::Number(count) => {
+            let end = count as usize;
+            frames::put_list(out, &list[..end])
+        }
+        NumberAnswer::Refused(refusal) => frames::put_refused(out, refusal),
+    }
+}
+
+fn question_frame(card: Card, kind: u8, a: u16, b: u16, tracks: &[u16], words: &[u64], directory: &[u16], list: &mut [u16], out: &mut [u8]) -> Step
+{
+    if kind < 0x10 || 0x18 < kind || (0x12 <= kind && kind <= 0x16 && b != 0) {
+        return misplaced(card, out);
+    }
+    if kind <= 0x11 {
+        let answer = pair_answer(card, kind == 0x11, a, b, tracks, words, directory);
+        return Step { card, wrote: frames::put_pair(out, answer) };
+    }
+    if kind <= 0x15 {
+        let answer = list_answer(card, kind, a, tracks, words, directory, list);
+        return Step { card, wrote: put_answer(answer, list, out) };
+    }
+    let answer = number_answer(card, kind, a, b, tracks, words, directory);
+    Step { card, wrote: frames::put_number(out, answer) }
+}
+
+// ---- one line
+
+// Reads one line. The areas are large enough for any course; `out` for any answer.
+pub fn read(card: Card, line: &[u8], tracks: &mut [u16], needs: &mut [u16], words: &mut [u64], directory: &mut [u16], work: &mut [u16], list: &mut [u16], out: &mut [u8]) -> Step
+{
+    let mut next = card;
+    next.lines = card.lines + 1;
+    let Line::IsFrame(frame) = frames::read_line(line) else {
+        return refuse(next, Refusal::NoFrame(next.lines), out);
+    };
+    if rules::MAX_LINES < next.lines {
+        return misplaced(next, out);
+    }
+    frame_in_phase(next, frame, tracks, needs, words, directory, work, list, out)
+}
+
+fn frame_in_phase(card: Card, frame: Frame, tracks: &mut [u16], needs: &mut [u16], words: &mut [u64], directory: &mut [u16], work: &mut [u16], list: &mut [u16], out: &mut [u8]) -> Step
+{
+    let phase = card.phase;
+    let units = card.units;
+    let count = card.count;
+    match phase {
+        Phase::Head => {
+            if frame.kind == 0x01 {
+                return head_frame(card, frame.a, frame.b, out);
+            }
+        }
+        Phase::Tracks => {
+            if frame.kind == 0x02 {
+                return track_frame(card, frame.a, frame.b, tracks, out);
+            }
+        }
+        Phase::Needs => {
+            if frame.kind == 0x03 {
+                return need_frame(card, frame.a, frame.b, needs, out);
+            }
+            if frame.kind == 0x04 {
+                return end_frame(card, frame.a, frame.b, tracks, needs, words, directory, work, out);
+            }
+        }
+        Phase::Asking => {
+            return question_frame(card, frame.kind, frame.a, frame.b, &tracks[..units], &words[..count], &directory[..count], list, out);
+        }
+        Phase::Stopped => {
+            return Step { card, wrote: 0 };
+        }
+    }
+    misplaced(card, out)
+}
+
+// ---- many lines
+
+// A card after some lines: how many bytes they took, and how many were printed for them.
+pub struct Run {
+    pub card: Card,
+    pub used: usize,
+    pub wrote: usize,
+}
+
+// Whether a card reads on.
+pub fn is_reading(card: Card) -> bool
+{
+    let phase = card.phase;
+    if let Phase::Stopped = phase { false } else { true }
+}
+
+// Reads line after line from the start of the bytes: a good line is eleven bytes, and anything else stops the card. It ends where the
+// card stops, fewer than eleven bytes are left, or the room for another answer is not there.
+pub fn run(card: Card, bytes: &[u8], tracks: &mut [u16], needs: &mut [u16], words: &mut [u64], directory: &mut [u16], work: &mut [u16], list: &mut [u16], out: &mut [u8]) -> Run
+{
+    let mut now = card;
+    let mut used: usize = 0;
+    let mut wrote: usize = 0;
+    while used + 11 <= bytes.len() && wrote + 5125 <= out.len() && is_reading(now) {
+        let step = read(now, &bytes[used..used + 11], tracks, needs, words, directory, work, list, &mut out[wrote..]);
+        now = step.card;
+        used += 11;
+        wrote += step.wrote;
+    }
+    Run { card: now, used, wrote }
+}
+
+// The end of the file, with the bytes of its last line that is no frame, if there are any.
+pub fn finish(card: Card, rest: &[u8], out: &mut [u8]) -> usize
+{
+    let phase = card.phase;
+    if let Phase::Stopped = phase {
+        return 0;
+    }
+    if 0 < rest.len() {
+        return frames::put_refused(out, Refusal::NoFrame(card.lines + 1));
+    }
+    if let Phase::Asking = phase {
+        return 0;
+    }
+    frames::put_refused(out, Refusal::FrameOrder(card.lines + 1))
+}

@@ -1,0 +1,2 @@
+-- The laws that only this crate needs.
+pub mod Parts
