@@ -90,13 +90,13 @@ fn own_low(needs: &[u16], work: &[u16], i: usize, k: usize, p: usize, end: usize
 {
     let mut low: u16 = 0;
     let mut j = end;
-    while 0 < j && needs[2 * j - 2] as usize == i + 1 {
-        let v = needs[2 * j - 1] as usize;
+    while 0 < j && needs[2 * (j - 1)] as usize == i + 1 {
+        j -= 1;
+        let v = needs[2 * j + 1] as usize;
         let far = work[(v - 1) * k + p];
         if low < far {
             low = far;
         }
-        j -= 1;
     }
     Own { low, pair: j }
 }

@@ -390,3 +390,14 @@ module _ (c : Listing) (a : Accepted c) (sound : soundVerdict c ≡ Fine) where
           both-and (needs-low u v l m ∙ r .0)
           (rw (some-none (λ w. needs (c .needs) u w && needs (c .needs) w v) u (λ w h. not-yes _ (λ s.
               let b = and-both (needs (c .needs) u w) (needs (c .needs) w v) s in none (r .1) w h (b .0) (b .1)))))
+
+-- ---- reach in the unit's own track, and in another
+
+module _ (c : Listing) where
+  pub reach-own : (u : ℕ) → reach c u (track (c .tracks) u) ≡ position (c .tracks) u
+  unfolding reach
+  reach-own u = rw (eq-eqb (track (c .tracks) u) (track (c .tracks) u) refl)
+
+  pub reach-other : (u q : ℕ) → (track (c .tracks) u ≡ q → ⊥) → reach c u q ≡ low c u q
+  unfolding reach
+  reach-other u q n = rw (ne-eqb (track (c .tracks) u) q n)

@@ -12,4 +12,6 @@ pub mod Accepted
 pub mod Tracks
 pub mod Bounds
 pub mod Wholes
+pub mod Builts
+pub mod Areas
 pub mod Bench

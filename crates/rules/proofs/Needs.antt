@@ -359,3 +359,12 @@ needs-same l m down-l down-m h u v =
     same-test (needs l u v) (needs m u v)
     (needs-cover l m down-l down-m (λ u v t. sym (h u v) ∙ t) u v)
     (needs-cover m l down-m down-l (λ u v t. h u v ∙ t) u v)
+
+-- over more units the same pairs are let through
+pub pairs-wider : {n m : ℕ} {l : List ℕ} → n ≤ m → Pairs n l → Pairs m l
+pairs-wider h c = record {
+  first-in = λ i q. omega (arith, c .first-in i q);
+  second-in = λ i q. omega (arith, c .second-in i q);
+  goes-down = c .goes-down;
+  ascends = c .ascends;
+}

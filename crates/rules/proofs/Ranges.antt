@@ -572,3 +572,12 @@ over-is area xs l h e written kept = ext-getD 0 l (over area xs) (e ∙ sym (len
         go : Dec (i < length xs) → getD l i 0 ≡ getD (over area xs) i 0
         go (yes w) = written i w ∙ sym (getD-over area xs i w)
         go (no n) = kept i (omega arith) (omega arith) ∙ sym (getD-past area xs i (omega arith))
+
+-- ---- what follows brings nothing
+
+pub greatest-past : (f : ℕ → ℕ) (a m : ℕ) → a ≤ m → ((x : ℕ) → a ≤ x → x < m → f x ≡ 0) → greatest f m ≡ greatest f a
+greatest-past f a m h z = le-antisymm (greatest-least f m (greatest f a) (λ x l. under x l (decLt x a))) (greatest-least f a (greatest f m) (λ x l. greatest-bound f m x (omega arith)))
+  where
+    under : (x : ℕ) → x < m → Dec (x < a) → f x ≤ greatest f a
+    under x l (yes b) = greatest-bound f a x b
+    under x l (no n) = omega (arith, z x (omega arith) l)
