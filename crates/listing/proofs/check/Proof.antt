@@ -121,8 +121,10 @@ track-lengths-requires c κs = (omega (arith, l .tracks-long, l .n-in), below)
     l : Limited (lent (start (c .before .before)))
     l = limited (c .before .before)
 
-    below : (i : ℕ) → i < length (start (c .before .before) .args .tracks .now) → getD (start (c .before .before) .args .tracks .now) i 0 < 32
-    below i h = omega (arith, l .k-in, leb-false (start (c .before .before) .args .k) (getD (start (c .before .before) .args .tracks .now) i 0) (refuse-fine (noTrack (lent (start (c .before .before)))) (start (c .before .before) .args .n) (λ i. NoSuchTrack (i + 1)) (second-fine c) i (omega (arith, l .tracks-long))))
+    below : (i : ℕ) → i < length (a .tracks) → getD (a .tracks) i 0 < 32
+    below i h =
+        let t = refuse-fine (noTrack a) (a .n) (λ i. NoSuchTrack (i + 1)) (second-fine c) i (omega (arith, l .tracks-long)) in
+        omega (arith, l .k-in, leb-false (a .k) (getD (a .tracks) i 0) t)
 
 empty-track-requires : tie.Need-empty-track-requires
 empty-track-requires c κs = search needs
