@@ -14,4 +14,7 @@ pub mod Bounds
 pub mod Wholes
 pub mod Builts
 pub mod Areas
+pub mod Builds
+pub mod Redrawn
+pub mod Demands
 pub mod Bench

@@ -527,6 +527,11 @@ module _ (f : ℕ → ℕ → ℕ) (k : ℕ) where
           rw (e, sym (length-rows m), getD-append-add (rows f m k) (table (f m) k) q 0) (getD-table (f m) k q l)
       go below (inr h′) = List·getD-append (rows f m k) (table (f m) k) 0 (i * k + q) (rw length-rows (digits-lt h′ l)) ∙ below h′
 
+pub rows-same : (f g : ℕ → ℕ → ℕ) (m k : ℕ) → ((i q : ℕ) → f i q ≡ g i q) → rows f m k ≡ rows g m k
+unfolding rows
+rows-same f g zero k h = refl
+rows-same f g (suc m) k h = rw (rows-same f g m k h, table-same (f m) (g m) k (λ q l. h m q))
+
 -- a list whose entry i * k + q is f i q is its rows
 pub rows-is : (f : ℕ → ℕ → ℕ) (k m : ℕ) (l : List ℕ) → length l ≡ m * k
     → ((i q : ℕ) → i < m → q < k → getD l (i * k + q) 0 ≡ f i q) → l ≡ rows f m k
