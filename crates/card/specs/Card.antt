@@ -160,27 +160,27 @@ abbrev pub afterLine : Reading → Line → Next
 afterLine r line.NoFrame = refuse r (NoFrame (r .lines))
 afterLine r (line.IsFrame f) = cond (ltb maxLines (r .lines)) (misplaced r) (frameInPhase (r .phase) r f)
 
--- a line is read where nothing has stopped the reading
-abbrev pub ifReading : Phase → Reading → Next → Next
-ifReading Head r next = next
-ifReading Tracks r next = next
-ifReading Needs r next = next
-ifReading Asking r next = next
-ifReading Stopped r next = goOn r
+-- a card that has stopped reads nothing more
+abbrev pub reads : Phase → Bool
+reads Head = true
+reads Tracks = true
+reads Needs = true
+reads Asking = true
+reads Stopped = false
 
 unfoldable pub readLine : Reading → List ℕ → Next
-readLine r line = ifReading (r .phase) r (afterLine (counted r) (lineOf line))
+readLine r line = cond (reads (r .phase)) (afterLine (counted r) (lineOf line)) (goOn r)
 
 -- the end of the file: before 04 it is refusal 12 at the line after the last
-unfoldable pub atEnd : Reading → List ℕ
-atEnd r = endIn (r .phase)
-  where
-    endIn : Phase → List ℕ
-    endIn Head = refusedLine (FrameOrder (r .lines + 1))
-    endIn Tracks = refusedLine (FrameOrder (r .lines + 1))
-    endIn Needs = refusedLine (FrameOrder (r .lines + 1))
-    endIn Asking = []
-    endIn Stopped = []
+abbrev pub endIn : Phase → ℕ → List ℕ
+endIn Head lines = refusedLine (FrameOrder (lines + 1))
+endIn Tracks lines = refusedLine (FrameOrder (lines + 1))
+endIn Needs lines = refusedLine (FrameOrder (lines + 1))
+endIn Asking lines = []
+endIn Stopped lines = []
+
+abbrev pub atEnd : Reading → List ℕ
+atEnd r = endIn (r .phase) (r .lines)
 
 abbrev pub start : Reading
 start = record { phase = Head; lines = 0; n = 0; k = 0; tracks = []; needs = [] }

@@ -1,18 +1,19 @@
 -- How a card and the lent areas hold a reading, and what each phase has settled of them.
 use Prim.Native.Nat.{ℕ, _+_, _*_, _≤_, _<_}
 use mathlib.Core.Path.{_≡_}
-use mathlib.Core.List.{List, []}
+use mathlib.Core.Bool.{true}
+use mathlib.Core.List.{List}
 use lib.ListN.{length, take, replicate}
 use Rattle.rules.specs.declared.Verdict.the-variants.{Fine}
 use Rattle.rules.specs.Ranges.{table}
-use Rattle.rules.specs.Listing.{pairs, size, listingVerdict}
+use Rattle.rules.specs.Listing.{size, listingVerdict}
 use Rattle.rules.specs.Order.{soundVerdict}
 use Rattle.rules.specs.Index.{lensOf, builtCount, builtWords, builtDirectory}
 use Rattle.layout.specs.Starts.{rowStarts}
 use Rattle.card.specs.declared.Card.{Card}
 use Rattle.card.specs.declared.Phase.{Phase}
 use Rattle.card.specs.declared.Phase.the-variants.{Head, Tracks, Needs, Asking, Stopped}
-use Rattle.card.specs.Card.{Reading, Next, listingOf}
+use Rattle.card.specs.Card.{Reading, Next, listingOf, reads}
 
 -- the reading that a card and the areas hold
 abbrev pub readingOf : Card → List ℕ → List ℕ → Reading
@@ -63,9 +64,10 @@ Settled Needs card tracks needs words directory = Limited card × (card .units �
 Settled Asking card tracks needs words directory = Limited card × (card .units ≡ card .n) × Loaded card tracks needs words directory
 Settled Stopped card tracks needs words directory = Unit {0}
 
--- a card that reads on after at most 65,535 lines, over areas with room for any course
+-- a card over areas with room for any course; one that reads on has read at most 65,535 lines
 pub record Fit (card : Card) (tracks needs words directory work list : List ℕ) : Type 0 where
   pub lines-few : card .lines ≤ 65536
+  pub lines-left : reads (card .phase) ≡ true → card .lines ≤ 65535
   pub pairs-few : card .pairs ≤ 8192
   pub units-few : card .units ≤ 1024
   pub track-room : 1024 ≤ length tracks

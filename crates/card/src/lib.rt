@@ -5,6 +5,16 @@ use rules::NumberAnswer;
 use rules::PairAnswer;
 use rules::Refusal;
 use rules::Verdict;
+ghost use Prim.Native.Nat.{ℕ, _+_, _*_, _/_, _≤_, _<_};
+ghost use mathlib.Core.Path.{_≡_};
+ghost use mathlib.Core.Logic.{_⊎_};
+ghost use lib.ListN.{length, take};
+ghost use Rattle.rules.specs.Ranges.{over};
+ghost use mathlib.Core.List.{[]};
+ghost use mathlib.Core.Bool.{false};
+ghost use Rattle.card.specs.Card.{readLine, reads};
+ghost use Rattle.card.specs.Files.{fed, restPrinted};
+ghost use Rattle.card.specs.Held.{readingOf, freshCard, Fit, next};
 
 // Where in the order of frames a file stands.
 pub enum Phase {
@@ -41,6 +51,7 @@ pub struct Step {
 
 // A card before its first line.
 pub fn start() -> Card
+    ensures { λ r. ⌜ r ≡ freshCard ⌝ }
 {
     Card {
         phase: Phase::Head,
@@ -241,7 +252,15 @@ fn question_frame(card: Card, kind: u8, a: u16, b: u16, tracks: &[u16], words: &
 
 // Reads one line. The areas are large enough for any course; `out` for any answer.
 pub fn read(card: Card, line: &[u8], tracks: &mut [u16], needs: &mut [u16], words: &mut [u64], directory: &mut [u16], work: &mut [u16], list: &mut [u16], out: &mut [u8]) -> Step
+    requires { ⌜ Fit card (now tracks) (now needs) (now words) (now directory) (now work) (now list) ⌝ }
+    requires { ⌜ 5125 ≤ length (now out) ⌝ }
+    ensures { λ r. ⌜ next (readingOf (r .card) (now (tracks .exit)) (now (needs .exit))) (take (r .wrote) (now (out .exit))) ≡ readLine (readingOf card (now (tracks .entry)) (now (needs .entry))) (now (line .entry)) ⌝ }
+    ensures { λ r. ⌜ (r .wrote ≤ 5125) × (now (out .exit) ≡ over (now (out .entry)) (take (r .wrote) (now (out .exit)))) ⌝ }
+    ensures { λ r. ⌜ Fit (r .card) (now (tracks .exit)) (now (needs .exit)) (now (words .exit)) (now (directory .exit)) (now (work .exit)) (now (list .exit)) ⌝ }
 {
+    if !is_reading(card) {
+        return Step { card, wrote: 0 };
+    }
     let mut next = card;
     next.lines = card.lines + 1;
     let Line::IsFrame(frame) = frames::read_line(line) else {
@@ -298,6 +317,7 @@ pub struct Run {
 
 // Whether a card reads on.
 pub fn is_reading(card: Card) -> bool
+    ensures { λ r. ⌜ r ≡ reads (card .phase) ⌝ }
 {
     let phase = card.phase;
     if let Phase::Stopped = phase { false } else { true }
@@ -306,6 +326,11 @@ pub fn is_reading(card: Card) -> bool
 // Reads line after line from the start of the bytes: a good line is eleven bytes, and anything else stops the card. It ends where the
 // card stops, fewer than eleven bytes are left, or the room for another answer is not there.
 pub fn run(card: Card, bytes: &[u8], tracks: &mut [u16], needs: &mut [u16], words: &mut [u64], directory: &mut [u16], work: &mut [u16], list: &mut [u16], out: &mut [u8]) -> Run
+    requires { ⌜ Fit card (now tracks) (now needs) (now words) (now directory) (now work) (now list) ⌝ }
+    ensures { λ r. ⌜ next (readingOf (r .card) (now (tracks .exit)) (now (needs .exit))) (take (r .wrote) (now (out .exit))) ≡ fed (readingOf card (now (tracks .entry)) (now (needs .entry))) (now (bytes .entry)) (r .used / 11) ⌝ }
+    ensures { λ r. ⌜ (r .used / 11 * 11 ≡ r .used) × (r .used ≤ length (now (bytes .entry))) × (r .wrote ≤ length (now (out .exit))) ⌝ }
+    ensures { λ r. ⌜ (reads (r .card .phase) ≡ false) ⊎ ((length (now (bytes .entry)) < r .used + 11) ⊎ (length (now (out .entry)) < r .wrote + 5125)) ⌝ }
+    ensures { λ r. ⌜ Fit (r .card) (now (tracks .exit)) (now (needs .exit)) (now (words .exit)) (now (directory .exit)) (now (work .exit)) (now (list .exit)) ⌝ }
 {
     let mut now = card;
     let mut used: usize = 0;
@@ -321,6 +346,8 @@ pub fn run(card: Card, bytes: &[u8], tracks: &mut [u16], needs: &mut [u16], word
 
 // The end of the file, with the bytes of its last line that is no frame, if there are any.
 pub fn finish(card: Card, rest: &[u8], out: &mut [u8]) -> usize
+    requires { ⌜ (card .lines ≤ 65536) × (length (now rest) < 11) × (20 ≤ length (now out)) ⌝ }
+    ensures { λ r. ⌜ (r ≤ length (now (out .exit))) × (take r (now (out .exit)) ≡ restPrinted (readingOf card [] []) (now (rest .entry))) ⌝ }
 {
     let phase = card.phase;
     if let Phase::Stopped = phase {

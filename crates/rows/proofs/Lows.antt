@@ -94,7 +94,7 @@ module _ {c : Listing} (a : Accepted c) where
     pub own-under : l < c .n
     own-under =
         let t : low c (i + 1) (getD (c .tracks) i 0) < inTrack (c .tracks) (getD (c .tracks) i 0) (i + 1) =
-            rw (track-next (c .tracks) i) at (low-under c a (i + 1) (omega arith)) in
+        rw (track-next (c .tracks) i) at (low-under c a (i + 1) (omega arith)) in
         omega (arith, own-low, in-le (c .tracks) (getD (c .tracks) i 0) (i + 1), in-n)
 
     own-test : unsound c i ≡ not (eqb (l + 1) (getD work (i * c .k + getD (c .tracks) i 0) 0))
@@ -138,6 +138,7 @@ module _ {c : Listing} (a : Accepted c) where
   pub settled-all : {work : List ℕ} {bad j i : ℕ} → Settled c work bad j i → i ≡ 0
       → (bad ≡ first (unsound c) (c .n)) × (work ≡ builtWork c)
   unfolding builtWork
-  settled-all {work} {bad} {j} {i} s e =
-      (from-start (unsound c) (c .n) bad (rw e at (s .refused)),
-      rows-is (λ i q. low c (i + 1) q) (c .k) (c .n) work (s .work-long) (λ v q l m. s .settled v q (omega arith) l m))
+  settled-all {work} {bad} {j} {i} s e = (
+    from-start (unsound c) (c .n) bad (rw e at (s .refused)),
+    rows-is (λ i q. low c (i + 1) q) (c .k) (c .n) work (s .work-long) (λ v q l m. s .settled v q (omega arith) l m),
+  )

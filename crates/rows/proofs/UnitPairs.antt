@@ -135,12 +135,13 @@ module _ {n : ℕ} {l : List ℕ} (ok : Pairs n l) where
 
       same : (q : ℕ) → q < k → joined work′ (i * k) ((lower l j - 1) * k) q ≡ greatest (brings work l k i q) (j + 1)
       same q h =
-          omega
-          (arith,
-          greatest-next (brings work l k i q) j,
-          brings-own work l k i q j e,
-          r .row .row q h,
-          r .row .kept ((lower l j - 1) * k + q) (inl (digits-lt earlier h)))
+          omega (
+            arith,
+            greatest-next (brings work l k i q) j,
+            brings-own work l k i q j e,
+            r .row .row q h,
+            r .row .kept ((lower l j - 1) * k + q) (inl (digits-lt earlier h)),
+          )
 
   pub row-to-end : {work work′ : List ℕ} {k i j : ℕ} → RowTo work work′ l k i j → (j < pairs l → upper l j ≡ i + 1 → ⊥)
       → (j ≡ pairsTo l (i + 1)) × RowIs work work′ (i * k) k (λ q. greatest (brings work l k i q) (pairs l))
@@ -180,12 +181,13 @@ module _ {n : ℕ} {l : List ℕ} (ok : Pairs n l) where
     within = omega (arith, r .within);
     all =
         let b : j - 1 + 1 ≡ j = omega arith in
-        omega
-        (arith,
-        r .all,
-        ap (greatest (brings work l k i q)) b,
-        greatest-next (brings work l k i q) (j - 1),
-        brings-own work l k i q (j - 1) e);
+        omega (
+          arith,
+          r .all,
+          ap (greatest (brings work l k i q)) b,
+          greatest-next (brings work l k i q) (j - 1),
+          brings-own work l k i q (j - 1) e,
+        );
   }
 
   pub low-to-end : {work : List ℕ} {k i q low j : ℕ} → LowTo work l k i q low j → (0 < j → upper l (j - 1) ≡ i + 1 → ⊥)

@@ -117,7 +117,8 @@ pub fn settle_rows(tracks: &[u16], needs: &[u16], work: &mut [u16], k: usize) ->
         let p = tracks[i] as usize;
         let own = own_low(needs, work, i, k, p, j);
         j = own.pair;
-        if own.low + 1 != work[i * k + p] {
+        let position = work[i * k + p];
+        if own.low + 1 != position {
             bad = i;
         }
         work[i * k + p] = own.low;

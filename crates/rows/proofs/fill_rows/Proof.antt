@@ -20,12 +20,22 @@ abbrev μ-loop : tie.MeasureT-loop
 loop-holds : tie.Need-loop-holds Inv-loop μ-loop
 loop-holds c = filled-start (c .before .before .before .pre .0) (c .before .before .before .args .work .now) (c .before .before .before .pre .1)
 
--- the unit's row stands in the work area
-row-fits : (c : tie.In-loop Inv-loop μ-loop) → c .before .loop .i * c .before .before .before .before .before .args .k + c .before .before .before .before .before .args .k ≤ length (c .before .loop .work)
-row-fits c = omega (arith, row-end (c .before .loop .i) (length (c .before .before .before .before .before .args .tracks .now)) (c .before .before .before .before .before .args .k) (omega arith), c .before .loop .inv .work-long)
+abbrev start : tie.In-loop Inv-loop μ-loop → tie.Start Inv-loop μ-loop
+start c = c .before .before .before .before .before
 
-track-fits : (c : tie.In-loop Inv-loop μ-loop) → (getD (c .before .before .before .before .before .args .tracks .now) (c .before .loop .i) 0 < c .before .before .before .before .before .args .k) × (c .before .before .before .before .before .args .k ≤ 32) × (length (c .before .before .before .before .before .args .tracks .now) ≤ 1024)
-track-fits c = (c .before .before .before .before .before .pre .0 .tracks-below (c .before .loop .i) (omega arith), c .before .before .before .before .before .pre .0 .k-in .1, c .before .before .before .before .before .pre .0 .n-in .1)
+-- the unit's row stands in the work area
+row-fits : (c : tie.In-loop Inv-loop μ-loop)
+    → c .before .loop .i * start c .args .k + start c .args .k ≤ length (c .before .loop .work)
+row-fits c = omega (arith, row-end (c .before .loop .i) (length (start c .args .tracks .now)) (start c .args .k) (omega arith), c .before .loop .inv .work-long)
+
+-- the unit's track is a track
+track-fits : (c : tie.In-loop Inv-loop μ-loop) → (getD (start c .args .tracks .now) (c .before .loop .i) 0 < start c .args .k) × (start c .args .k ≤ 32) × (length (start c .args .tracks .now) ≤ 1024)
+track-fits c = (start c .pre .0 .tracks-below (c .before .loop .i) (omega arith), start c .pre .0 .k-in .1, start c .pre .0 .n-in .1)
+
+-- and the entry of the unit's own track
+entry-fits : (c : tie.In-loop Inv-loop μ-loop)
+    → c .before .loop .i * start c .args .k + getD (start c .args .tracks .now) (c .before .loop .i) 0 < length (c .before .loop .work)
+entry-fits c = omega (arith, row-fits c, track-fits c)
 
 mul-clear-row : tie.Need-mul-clear-row Inv-loop μ-loop
 mul-clear-row c = omega (arith, row-fits (c .before))
@@ -35,65 +45,74 @@ clear-row-requires c κs = row-fits (c .before)
 
 join-pairs-requires : tie.Need-join-pairs-requires Inv-loop μ-loop
 join-pairs-requires c κs =
-    let cleared = c .before .before .before .clear-row .ensures in
-    (pairs-wider (track-fits (c .before .before .before .before .before) .2) (c .before .before .before .before .before .before .before .before .before .before .pre .0 .needs-pairs),
-    ((omega (arith, track-fits (c .before .before .before .before .before)), track-fits (c .before .before .before .before .before) .1, omega (arith, row-fits (c .before .before .before .before .before), cleared .same-length)),
-    (c .before .before .before .before .before .before .loop .inv .pair-is, cleared .row)))
+    let fits = track-fits (c .before .before .before .before .before) in
+    let cleared = c .before .before .before .clear-row .ensures in (
+      pairs-wider (fits .2) (c .before .before .before .before .before .before .before .before .before .before .pre .0 .needs-pairs),
+      (
+        (omega arith, fits .1, omega (arith, row-fits (c .before .before .before .before .before), cleared .same-length)),
+        (c .before .before .before .before .before .before .loop .inv .pair-is, cleared .row),
+      ),
+    )
+
+-- the turn, from the read of the unit's track on
+abbrev turn : tie.After-shared-slice-known3 Inv-loop μ-loop → tie.In-loop Inv-loop μ-loop
+turn c = c .before .before .before .before .before .before .before .before .before
 
 mul-p : tie.Need-mul-p Inv-loop μ-loop
-mul-p c = omega (arith, track-fits (c .before .before .before .before .before .before .before .before))
+mul-p c = omega arith
 
 shared-slice-read-p : tie.Need-shared-slice-read-p Inv-loop μ-loop
-shared-slice-read-p c = omega (arith, track-fits (c .before .before .before .before .before .before .before .before .before))
+shared-slice-read-p c = omega arith
 
 cast-p : tie.Need-cast-p Inv-loop μ-loop
-cast-p c = omega (arith, track-fits (c .before .before .before .before .before .before .before .before .before))
+cast-p c = omega (arith, track-fits (turn c))
 
 mul-seen : tie.Need-mul-seen Inv-loop μ-loop
-mul-seen c = omega (arith, track-fits (c .before .before .before .before .before .before .before .before .before))
+mul-seen c = omega (arith, track-fits (turn c))
 
 array-read-seen : tie.Need-array-read-seen Inv-loop μ-loop
-array-read-seen c = omega (arith, track-fits (c .before .before .before .before .before .before .before .before .before))
+array-read-seen c = omega (arith, track-fits (turn c))
 
 add-seen : tie.Need-add-seen Inv-loop μ-loop
 add-seen c =
-    let ts = c .before .before .before .before .before .before .before .before .before .before .before .before .before .before .args .tracks .now in
-    let i = c .before .before .before .before .before .before .before .before .before .before .loop .i in
-    let f = track-fits (c .before .before .before .before .before .before .before .before .before) in
-    omega (arith, c .before .before .before .before .before .before .before .before .before .before .loop .inv .seen-are (getD ts i 0) (omega arith), in-le ts (getD ts i 0) i)
+    let ts = start (turn c) .args .tracks .now in
+    let i = turn c .before .loop .i in
+    let fits = track-fits (turn c) in
+    omega (arith, turn c .before .loop .inv .seen-are (getD ts i 0) (omega arith), in-le ts (getD ts i 0) i)
 
 mul-seen-2 : tie.Need-mul-seen-2 Inv-loop μ-loop
-mul-seen-2 c = omega (arith, track-fits (c .before .before .before .before .before .before .before .before .before))
+mul-seen-2 c = omega (arith, track-fits (turn c))
 
 array-write-seen : tie.Need-array-write-seen Inv-loop μ-loop
-array-write-seen c = omega (arith, track-fits (c .before .before .before .before .before .before .before .before .before))
+array-write-seen c = omega (arith, track-fits (turn c))
 
 mul-work : tie.Need-mul-work Inv-loop μ-loop
-mul-work c = omega (arith, track-fits (c .before .before .before .before .before .before .before .before .before))
+mul-work c = omega (arith, track-fits (turn c))
 
 array-read-work : tie.Need-array-read-work Inv-loop μ-loop
-array-read-work c = omega (arith, track-fits (c .before .before .before .before .before .before .before .before .before))
+array-read-work c = omega (arith, track-fits (turn c))
 
 mul-work-2 : tie.Need-mul-work-2 Inv-loop μ-loop
-mul-work-2 c = omega (arith, row-fits (c .before .before .before .before .before .before .before .before .before), track-fits (c .before .before .before .before .before .before .before .before .before))
+mul-work-2 c = omega (arith, entry-fits (turn c))
 
 add-work : tie.Need-add-work Inv-loop μ-loop
-add-work c = omega (arith, row-fits (c .before .before .before .before .before .before .before .before .before), track-fits (c .before .before .before .before .before .before .before .before .before))
+add-work c = omega (arith, entry-fits (turn c))
 
 mul-work-3 : tie.Need-mul-work-3 Inv-loop μ-loop
-mul-work-3 c = omega (arith, row-fits (c .before .before .before .before .before .before .before .before .before), track-fits (c .before .before .before .before .before .before .before .before .before))
+mul-work-3 c = omega (arith, entry-fits (turn c))
 
 slice-write-work : tie.Need-slice-write-work Inv-loop μ-loop
-slice-write-work c = omega (arith, row-fits (c .before .before .before .before .before .before .before .before .before), track-fits (c .before .before .before .before .before .before .before .before .before))
+slice-write-work c = omega (arith, entry-fits (turn c))
 
 add-i : tie.Need-add-i Inv-loop μ-loop
-add-i c = omega (arith, track-fits (c .before .before .before .before .before .before .before .before .before))
+add-i c = omega arith
 
 loop-less : tie.Need-loop-less Inv-loop μ-loop
-loop-less c = omega (arith, track-fits (c .before .before .before .before .before .before .before .before .before))
+loop-less c = omega arith
 
 loop-again : tie.Need-loop-again Inv-loop μ-loop
-loop-again c = filled-next (c .before .before .before .before .before .before .before .before .before .before .before .before .before .before .pre .0) _ (c .before .before .before .before .before .before .before .before .before .before .loop .inv) (omega arith) (c .before .before .before .before .before .before .before .clear-row .ensures) (c .before .before .before .join-pairs .ensures .1) (c .before .before .before .join-pairs .ensures .0)
+loop-again c =
+    filled-next (start (turn c) .pre .0) _ (turn c .before .loop .inv) (omega arith) (c .before .before .before .before .before .before .before .clear-row .ensures) (c .before .before .before .join-pairs .ensures .1) (c .before .before .before .join-pairs .ensures .0)
 
 same-length : tie.Need-same-length Inv-loop μ-loop
 same-length c = omega (arith, c .before .loop .inv .work-long, c .before .before .before .before .before .pre .1)

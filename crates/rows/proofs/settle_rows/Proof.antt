@@ -22,10 +22,13 @@ abbrev μ-loop : tie.MeasureT-loop
 loop-holds : tie.Need-loop-holds Inv-loop μ-loop
 loop-holds c = (refl, settled-start (c .before .before .before .pre .0) (c .before .before .before .args .work .now) (c .before .before .before .pre .1))
 
+abbrev start : tie.In-loop Inv-loop μ-loop → tie.Start Inv-loop μ-loop
+start c = c .before .before .before .before .before
+
 -- in a turn: the invariant, of the unit below i
 above : (c : tie.In-loop Inv-loop μ-loop)
     → Settled
-    (listing (length (c .before .before .before .before .before .args .tracks .now)) (c .before .before .before .before .before .args .k) (c .before .before .before .before .before .args .tracks .now) (c .before .before .before .before .before .args .needs .now))
+    (listing (length (start c .args .tracks .now)) (start c .args .k) (start c .args .tracks .now) (start c .args .needs .now))
     (c .before .loop .work)
     (c .before .loop .bad)
     (c .before .loop .j)
@@ -35,22 +38,29 @@ above c =
     rw e at (c .before .loop .inv .1)
 
 -- the unit's row stands in the work area
-row-fits : (c : tie.In-loop Inv-loop μ-loop) → (c .before .loop .i - 1) * c .before .before .before .before .before .args .k + c .before .before .before .before .before .args .k ≤ length (c .before .before .before .before .before .args .work .now)
+row-fits : (c : tie.In-loop Inv-loop μ-loop)
+    → (c .before .loop .i - 1) * start c .args .k + start c .args .k ≤ length (start c .args .work .now)
 row-fits c =
     let s = c .before .loop .inv .1 in
-    omega (arith, c .before .loop .inv .0, row-end (c .before .loop .i - 1) (length (c .before .before .before .before .before .args .tracks .now)) (c .before .before .before .before .before .args .k) (omega arith))
+    omega (arith, c .before .loop .inv .0, row-end (c .before .loop .i - 1) (length (start c .args .tracks .now)) (start c .args .k) (omega arith))
 
+-- the unit's track is a track
 track-fits : (c : tie.In-loop Inv-loop μ-loop)
-    → (getD (c .before .before .before .before .before .args .tracks .now) (c .before .loop .i - 1) 0 < c .before .before .before .before .before .args .k) × (c .before .before .before .before .before .args .k ≤ 32) × (length (c .before .before .before .before .before .args .tracks .now) ≤ 1024)
+    → (getD (start c .args .tracks .now) (c .before .loop .i - 1) 0 < start c .args .k) × (start c .args .k ≤ 32) × (length (start c .args .tracks .now) ≤ 1024)
 track-fits c =
     let s = c .before .loop .inv .1 in
-    (c .before .before .before .before .before .pre .0 .tracks-below (c .before .loop .i - 1) (omega arith), c .before .before .before .before .before .pre .0 .k-in .1, c .before .before .before .before .before .pre .0 .n-in .1)
+    (start c .pre .0 .tracks-below (c .before .loop .i - 1) (omega arith), start c .pre .0 .k-in .1, start c .pre .0 .n-in .1)
+
+-- and the entry of the unit's own track
+entry-fits : (c : tie.In-loop Inv-loop μ-loop)
+    → (c .before .loop .i - 1) * start c .args .k + getD (start c .args .tracks .now) (c .before .loop .i - 1) 0 < length (start c .args .work .now)
+entry-fits c = omega (arith, row-fits c, track-fits c)
 
 sub-i : tie.Need-sub-i Inv-loop μ-loop
 sub-i c = omega arith
 
 mul-p : tie.Need-mul-p Inv-loop μ-loop
-mul-p c = omega (arith, track-fits c)
+mul-p c = let s = c .before .loop .inv .1 in omega arith
 
 shared-slice-read-p : tie.Need-shared-slice-read-p Inv-loop μ-loop
 shared-slice-read-p c = let s = c .before .before .loop .inv .1 in omega (arith, s .upto)
@@ -60,37 +70,41 @@ cast-p c = omega (arith, track-fits (c .before))
 
 own-low-requires : tie.Need-own-low-requires Inv-loop μ-loop
 own-low-requires c κs =
-    let f = track-fits (c .before .before) in
+    let fits = track-fits (c .before .before) in
     let s = above (c .before .before) in
-    (pairs-wider (f .2) (c .before .before .before .before .before .before .before .pre .0 .needs-pairs), ((omega (arith, s .upto), f .0, f .1, omega (arith, row-fits (c .before .before))), s .pair-is))
+    (pairs-wider (fits .2) (c .before .before .before .before .before .before .before .pre .0 .needs-pairs), ((omega (arith, s .upto), fits .0, fits .1, omega (arith, row-fits (c .before .before))), s .pair-is))
+
+mul-position : tie.Need-mul-position Inv-loop μ-loop
+mul-position c = omega (arith, entry-fits (c .before .before .before))
+
+add-position : tie.Need-add-position Inv-loop μ-loop
+add-position c = omega (arith, entry-fits (c .before .before .before))
+
+mul-position-2 : tie.Need-mul-position-2 Inv-loop μ-loop
+mul-position-2 c = omega (arith, entry-fits (c .before .before .before))
+
+slice-read-position : tie.Need-slice-read-position Inv-loop μ-loop
+slice-read-position c = omega (arith, entry-fits (c .before .before .before .before))
 
 add-if1 : tie.Need-add-if1 Inv-loop μ-loop
 add-if1 c =
-    omega (arith, own-under (c .before .before .before .before .before .before .before .before .before .pre .0) _ _ (above (c .before .before .before .before)) (c .before .own-low .ensures .0), track-fits (c .before .before .before .before))
+    omega (arith, own-under (c .before .before .before .before .before .before .before .before .before .before .pre .0) _ _ (above (c .before .before .before .before .before)) (c .before .before .own-low .ensures .0), track-fits (c .before .before .before .before .before))
 
-mul-if1 : tie.Need-mul-if1 Inv-loop μ-loop
-mul-if1 c = omega (arith, row-fits (c .before .before .before .before), track-fits (c .before .before .before .before))
-
-add-if1-2 : tie.Need-add-if1-2 Inv-loop μ-loop
-add-if1-2 c = omega (arith, row-fits (c .before .before .before .before), track-fits (c .before .before .before .before))
-
-mul-if1-2 : tie.Need-mul-if1-2 Inv-loop μ-loop
-mul-if1-2 c = omega (arith, row-fits (c .before .before .before .before), track-fits (c .before .before .before .before))
-
-slice-read-if1 : tie.Need-slice-read-if1 Inv-loop μ-loop
-slice-read-if1 c = omega (arith, row-fits (c .before .before .before .before .before), track-fits (c .before .before .before .before .before))
+-- the turn, past the test
+abbrev turn : tie.Joined1 Inv-loop μ-loop → tie.In-loop Inv-loop μ-loop
+turn c = c .before .before .before .before .before .before
 
 mul-work : tie.Need-mul-work Inv-loop μ-loop
-mul-work c = omega (arith, row-fits (c .before .before .before .before .before .before), track-fits (c .before .before .before .before .before .before))
+mul-work c = omega (arith, entry-fits (turn c))
 
 add-work : tie.Need-add-work Inv-loop μ-loop
-add-work c = omega (arith, row-fits (c .before .before .before .before .before .before), track-fits (c .before .before .before .before .before .before))
+add-work c = omega (arith, entry-fits (turn c))
 
 mul-work-2 : tie.Need-mul-work-2 Inv-loop μ-loop
-mul-work-2 c = omega (arith, row-fits (c .before .before .before .before .before .before), track-fits (c .before .before .before .before .before .before))
+mul-work-2 c = omega (arith, entry-fits (turn c))
 
 slice-write-work : tie.Need-slice-write-work Inv-loop μ-loop
-slice-write-work c = omega (arith, row-fits (c .before .before .before .before .before .before), track-fits (c .before .before .before .before .before .before))
+slice-write-work c = omega (arith, entry-fits (turn c))
 
 loop-less : tie.Need-loop-less Inv-loop μ-loop
 loop-less c = omega arith
@@ -99,11 +113,12 @@ loop-again : tie.Need-loop-again Inv-loop μ-loop
 loop-again c =
     let a = c .before .before .before .before .before .before .before .before .before .before .before .pre .0 in
     let s = above (c .before .before .before .before .before .before) in
-    let own = c .before .before .before .own-low .ensures in
-    (simp length-set (c .before .before .before .before .before .before .before .loop .inv .0),
-    settled-next a _ _ s (own .0) _ _
-    (⊎-elim (λ w. rw (w .1) (refused-here a _ _ s (own .0) (w .0 .taken))) (λ w. rw (w .1) (refused-past a _ _ s (own .0) (w .0 .left))) (c .if1 .came))
-    (own .1))
+    let own = c .before .before .before .own-low .ensures in (
+      simp length-set (c .before .before .before .before .before .before .before .loop .inv .0),
+      settled-next a _ _ s (own .0) _ _
+          (⊎-elim (λ w. rw (w .1) (refused-here a _ _ s (own .0) (w .0 .taken))) (λ w. rw (w .1) (refused-past a _ _ s (own .0) (w .0 .left))) (c .if1 .came))
+          (own .1),
+    )
 
 same-length : tie.Need-same-length Inv-loop μ-loop
 same-length c = omega (arith, c .before .loop .inv .0)
@@ -123,11 +138,11 @@ settle-rows-spec =
     shared-slice-read-p
     cast-p
     own-low-requires
+    mul-position
+    add-position
+    mul-position-2
+    slice-read-position
     add-if1
-    mul-if1
-    add-if1-2
-    mul-if1-2
-    slice-read-if1
     mul-work
     add-work
     mul-work-2
