@@ -5,9 +5,28 @@ ghost use Prim.Native.Nat.{_+_, _-_, _≤_, _<_};
 ghost use mathlib.Core.Path.{_≡_};
 ghost use lib.ListN.{length, getD};
 ghost use Rattle.rules.specs.Ranges.{sum, over};
+ghost use Rattle.rules.specs.Listing.{within};
 ghost use Rattle.rules.specs.Questions.{unitAt};
 ghost use Rattle.rules.specs.Outcomes.{listRoom, listAnswer};
 ghost use Rattle.lists.specs.Spans.{spanned, lastSpanned, Tracks, Held, listed};
+
+// How many positions a span holds.
+fn span_len(first: u16, last: u16) -> usize
+    ensures { λ r. ⌜ (r ≡ last + 1 - first) × (r ≤ 65536) ⌝ }
+{
+    if first <= last {
+        last as usize + 1 - first as usize
+    } else {
+        0
+    }
+}
+
+// A position is in a span.
+fn in_span(first: u16, last: u16, at: u16) -> bool
+    ensures { λ r. ⌜ r ≡ within first last at ⌝ }
+{
+    first <= at && at <= last
+}
 
 // How many positions the spans of the first k tracks hold.
 fn span_count(from: &[u16; 32], to: &[u16; 32], k: usize) -> usize
@@ -17,9 +36,7 @@ fn span_count(from: &[u16; 32], to: &[u16; 32], k: usize) -> usize
     let mut count: usize = 0;
     let mut q: usize = 0;
     while q < k {
-        if from[q] <= to[q] {
-            count += to[q] as usize + 1 - from[q] as usize;
-        }
+        count += span_len(from[q], to[q]);
         q += 1;
     }
     count
@@ -38,7 +55,7 @@ fn write_units(tracks: &[u16], from: &[u16; 32], to: &[u16; 32], list: &mut [u16
         let q = tracks[i] as usize;
         let at = seen[q] + 1;
         seen[q] = at;
-        if from[q] <= at && at <= to[q] {
+        if in_span(from[q], to[q], at) {
             list[count] = i as u16 + 1;
             count += 1;
         }
@@ -47,7 +64,14 @@ fn write_units(tracks: &[u16], from: &[u16; 32], to: &[u16; 32], list: &mut [u16
 }
 
 // Answers a list: the units in the spans, written from the named place on, or refusal 10.
-pub fn answer_list(tracks: &[u16], from: &[u16; 32], to: &[u16; 32], k: usize, list: &mut [u16], place: usize) -> NumberAnswer
+pub fn answer_list(
+    tracks: &[u16],
+    from: &[u16; 32],
+    to: &[u16; 32],
+    k: usize,
+    list: &mut [u16],
+    place: usize,
+) -> NumberAnswer
     requires { ⌜ Tracks (now tracks) k ⌝ }
     requires { ⌜ Held (now from) (now to) (now tracks) k ⌝ }
     ensures { λ r. ⌜ listed r (now (list .exit)) ≡ listAnswer (listRoom (spanned (now (from .entry)) (now (to .entry)) (now (tracks .entry))) (now (list .entry)) place) (spanned (now (from .entry)) (now (to .entry)) (now (tracks .entry))) (now (list .entry)) place ⌝ }
@@ -73,7 +97,7 @@ pub fn last_unit(tracks: &[u16], from: &[u16; 32], to: &[u16; 32], u: u16) -> u1
         let q = tracks[v as usize - 1] as usize;
         let at = seen[q] + 1;
         seen[q] = at;
-        if from[q] <= at && at <= to[q] {
+        if in_span(from[q], to[q], at) {
             last = v;
         }
         v += 1;

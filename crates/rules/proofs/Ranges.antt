@@ -9,13 +9,14 @@ use native.Mathlib.Omega.{arith}
 use native.Mathlib.Numerals.{add-one}
 use native.Mathlib.Nat.{le-refl, le-antisymm, add-suc, add-zero, suc-mul, div-add-mod', mod-lt, div-lt-iff-lt-mul}
 use native.Mathlib.Decide.{decLt, decLe, ℕ-discrete}
-use lib.ListN.{length, getD, drop, take, length-append, length-drop}
-use lib.Seq.{getD-append-add, getD-append-seam, getD-at, getD-drop, ext-getD}
+use lib.ListN.{length, getD, set, drop, take, length-append, length-drop}
+use lib.Seq.{getD-append-add, getD-append-seam, getD-at, getD-drop, drop-cons, set-append-seam, ext-getD}
 use lib.Arith.{digits-lt}
 use lib.ListN.{List·getD-append}
-use lib.Dec.{ltb}
-use borrow.Author.Tests.{lt-ltb, le-ltb}
+use lib.Dec.{leb, ltb}
+use borrow.Author.Tests.{lt-ltb, le-ltb, le-leb}
 use Rattle.rules.specs.Ranges.{sum, bit1, count, greatest, smallest, first, some, every, keep, table, rows, over}
+use Rattle.rules.specs.Questions.{unitsWhere}
 
 -- ---- numbers below a bound
 
@@ -586,3 +587,66 @@ greatest-past f a m h z = le-antisymm (greatest-least f m (greatest f a) (λ x l
     under : (x : ℕ) → x < m → Dec (x < a) → f x ≤ greatest f a
     under x l (yes b) = greatest-bound f a x b
     under x l (no n) = omega (arith, z x (omega arith) l)
+
+pub over-none : (area : List ℕ) → over area [] ≡ area
+unfolding over
+over-none area = refl
+
+-- one entry more, stored right past the written ones
+pub over-next : (area xs : List ℕ) (x : ℕ) → length xs < length area → set (over area xs) (length xs) x ≡ over area (xs ++ (x ∷ []))
+unfolding over
+over-next area xs x h =
+    rw (drop-cons area (length xs) 0, set-append-seam, length-append, append-assoc, add-one)
+
+-- ---- a sum of which one term changes
+
+pub sum-one : (f g : ℕ → ℕ) (m i b : ℕ) → i < m → g i ≡ f i + b → ((j : ℕ) → j < m → (j ≡ i → ⊥) → g j ≡ f j) → sum g m ≡ sum f m + b
+unfolding sum
+sum-one f g zero i b l e h = absurd (omega arith)
+sum-one f g (suc m) i b l e h = go (λ w. sum-one f g m i b w e (λ j q. h j (omega arith))) (last-or-before l)
+  where
+    go : (i < m → sum g m ≡ sum f m + b) → (i ≡ m) ⊎ (i < m) → sum g m + g m ≡ sum f m + f m + b
+    go below (inl s) =
+        let r : sum g m ≡ sum f m = sum-same g f m (λ j q. h j (omega arith) (λ n. omega arith)) in
+        omega (arith, ap f s, ap g s)
+    go below (inr w) = omega (arith, below w, h m (omega arith) (λ n. omega arith))
+
+-- ---- the units that pass
+
+module _ (p : ℕ → Bool) where
+  pub units-none : unitsWhere p 0 ≡ []
+  unfolding unitsWhere keep
+  units-none = refl
+
+  pub units-next : (m : ℕ) → unitsWhere p (m + 1) ≡ unitsWhere p m ++ cond (p (m + 1)) ((m + 1) ∷ []) []
+  unfolding unitsWhere keep
+  units-next m = rw (le-leb 1 (m + 1) (omega arith), add-one m)
+
+  pub units-yes : (m : ℕ) → p (m + 1) ≡ true → unitsWhere p (m + 1) ≡ unitsWhere p m ++ ((m + 1) ∷ [])
+  units-yes m h = units-next m ∙ rw h
+
+  pub units-no : (m : ℕ) → p (m + 1) ≡ false → unitsWhere p (m + 1) ≡ unitsWhere p m
+  units-no m h = units-next m ∙ rw h (append-nil (unitsWhere p m))
+
+  pub units-longer : (m : ℕ) → length (unitsWhere p (m + 1)) ≡ length (unitsWhere p m) + bit1 (p (m + 1))
+  units-longer m = rw (units-next m, length-append, length-kept)
+
+  pub units-up : (a b : ℕ) → a ≤ b → length (unitsWhere p a) ≤ length (unitsWhere p b)
+  unfolding unitsWhere
+  units-up a b h =
+      rw (length-keep (λ v. leb 1 v && p v) (suc a), length-keep (λ v. leb 1 v && p v) (suc b))
+      (count-up (λ v. leb 1 v && p v) (suc a) (suc b) (omega arith))
+
+  pub units-most : (m : ℕ) → length (unitsWhere p m) ≤ m
+  units-most zero = omega (arith, ap length units-none)
+  units-most (suc m) =
+      let l : length (unitsWhere p (suc m)) ≡ length (unitsWhere p m) + bit1 (p (m + 1)) = rw (sym (add-one m)) (units-longer m) in
+      omega (arith, units-most m, bit1-le (p (m + 1)))
+
+pub units-same : (p q : ℕ → Bool) (m : ℕ) → ((v : ℕ) → 1 ≤ v → v ≤ m → p v ≡ q v) → unitsWhere p m ≡ unitsWhere q m
+unfolding unitsWhere
+units-same p q m h = keep-same (λ v. leb 1 v && p v) (λ v. leb 1 v && q v) (suc m) at-each
+  where
+    at-each : (v : ℕ) → v < suc m → (leb 1 v && p v) ≡ (leb 1 v && q v)
+    at-each zero l = refl
+    at-each (suc v) l = rw (h (suc v) (omega arith) (omega arith))

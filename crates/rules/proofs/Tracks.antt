@@ -225,3 +225,16 @@ in-all ts k (suc m) h =
 -- so the lengths add up to the units
 pub sizes-all : (ts : List ℕ) (k : ℕ) → ((i : ℕ) → i < length ts → getD ts i 0 < k) → sum (size ts) k ≡ length ts
 sizes-all ts k h = in-all ts k (length ts) h
+
+-- ---- one unit more
+
+module _ (ts : List ℕ) where
+  -- its own track has one more
+  pub in-own : (q m : ℕ) → getD ts m 0 ≡ q → inTrack ts q (m + 1) ≡ inTrack ts q m + 1
+  in-own q m e = in-next ts q m ∙ rw (eq-eqb (getD ts m 0) q e)
+
+  -- and no other
+  pub in-other : (q m : ℕ) → (getD ts m 0 ≡ q → ⊥) → inTrack ts q (m + 1) ≡ inTrack ts q m
+  in-other q m n =
+      let b : bit1 (eqb (getD ts m 0) q) ≡ 0 = rw (ne-eqb (getD ts m 0) q n) in
+      omega (arith, in-next ts q m)

@@ -1,0 +1,2 @@
+-- The laws of the spans.
+pub mod Spans
