@@ -12,26 +12,44 @@ ghost use Rattle.layout.specs.Starts.{rowStarts};
 ghost use Rattle.bounds.specs.Known.{Known, Standing, noneReaches, reachesNone};
 
 // A unit's track and its position there.
-pub struct Spot {
+pub struct Place {
     pub track: usize,
     pub at: usize,
 }
 
 // Where unit u stands.
-pub fn spot(tracks: &[u16], u: u16) -> Spot
+pub fn spot(tracks: &[u16], u: u16) -> Place
     requires { ⌜ (1 ≤ u) × (u ≤ length (now tracks)) ⌝ }
     ensures { λ r. ⌜ r ≡ record { track = track (now (tracks .entry)) u; at = position (now (tracks .entry)) u } ⌝ }
 {
-    let p = tracks[u as usize - 1];
+    let last = u as usize - 1;
+    let p = tracks[last];
     let mut at: usize = 0;
     let mut i: usize = 0;
-    while i < u as usize {
+    while i <= last {
         if tracks[i] == p {
             at += 1;
         }
         i += 1;
     }
-    Spot { track: p as usize, at }
+    Place {
+        track: p as usize,
+        at,
+    }
+}
+
+// A length or a position as a usize.
+fn wide(number: u16) -> usize
+    ensures { λ r. ⌜ (r ≡ number) × (r < 65536) ⌝ }
+{
+    number as usize
+}
+
+// The first bit of a row as a usize.
+fn row_start(bit: u32) -> usize
+    ensures { λ r. ⌜ (r ≡ bit) × (r < 4294967296) ⌝ }
+{
+    bit as usize
 }
 
 // The first bit of vector p,q among k tracks.
@@ -39,11 +57,21 @@ fn vector_start(lens: &[u16; 32], row: &[u32; 33], k: usize, p: usize, q: usize)
     requires { ⌜ (k ≤ 32) × (p < k) × (q < k) × (now row ≡ rowStarts (lensOf (now lens)) k) ⌝ }
     ensures { λ r. ⌜ r ≡ offset (lensOf (now (lens .entry))) k p q ⌝ }
 {
-    row[p] as usize + layout::row_room(lens, p, q)
+    row_start(row[p]) + layout::row_room(lens, p, q)
 }
 
 // Position i of track p needs position j of track q.
-pub fn reaches(words: &[u64], directory: &[u16], lens: &[u16; 32], row: &[u32; 33], k: usize, p: usize, i: usize, q: usize, j: usize) -> bool
+pub fn reaches(
+    words: &[u64],
+    directory: &[u16],
+    lens: &[u16; 32],
+    row: &[u32; 33],
+    k: usize,
+    p: usize,
+    i: usize,
+    q: usize,
+    j: usize,
+) -> bool
     requires { ⌜ Known (lensOf (now lens)) k (now words) (now directory) (now row) ⌝ }
     requires { ⌜ Standing (lensOf (now lens)) k p i ⌝ }
     requires { ⌜ Standing (lensOf (now lens)) k q j ⌝ }
@@ -53,11 +81,21 @@ pub fn reaches(words: &[u64], directory: &[u16], lens: &[u16; 32], row: &[u32; 3
         return j < i;
     }
     let off = vector_start(lens, row, k, p, q);
-    words::ones_before(words, directory, off + i + j - 1) < words::ones_before(words, directory, off) + i
+    words::ones_before(words, directory, off + i + j - 1)
+        < words::ones_before(words, directory, off) + i
 }
 
 // low of position i of track p, in track q.
-pub fn low_at(words: &[u64], directory: &[u16], lens: &[u16; 32], row: &[u32; 33], k: usize, p: usize, i: usize, q: usize) -> usize
+pub fn low_at(
+    words: &[u64],
+    directory: &[u16],
+    lens: &[u16; 32],
+    row: &[u32; 33],
+    k: usize,
+    p: usize,
+    i: usize,
+    q: usize,
+) -> usize
     requires { ⌜ Known (lensOf (now lens)) k (now words) (now directory) (now row) ⌝ }
     requires { ⌜ Standing (lensOf (now lens)) k p i ⌝ }
     requires { ⌜ q < k ⌝ }
@@ -68,12 +106,21 @@ pub fn low_at(words: &[u64], directory: &[u16], lens: &[u16; 32], row: &[u32; 33
     }
     let off = vector_start(lens, row, k, p, q);
     let before = words::ones_before(words, directory, off);
-    let bits = lens[p] as usize + lens[q] as usize;
+    let bits = wide(lens[p]) + wide(lens[q]);
     words::place_of_one(words, directory, off, bits, before, i) - i
 }
 
 // high of position i of track p, in track q.
-pub fn high_at(words: &[u64], directory: &[u16], lens: &[u16; 32], row: &[u32; 33], k: usize, p: usize, i: usize, q: usize) -> usize
+pub fn high_at(
+    words: &[u64],
+    directory: &[u16],
+    lens: &[u16; 32],
+    row: &[u32; 33],
+    k: usize,
+    p: usize,
+    i: usize,
+    q: usize,
+) -> usize
     requires { ⌜ Known (lensOf (now lens)) k (now words) (now directory) (now row) ⌝ }
     requires { ⌜ Standing (lensOf (now lens)) k p i ⌝ }
     requires { ⌜ q < k ⌝ }
@@ -84,12 +131,20 @@ pub fn high_at(words: &[u64], directory: &[u16], lens: &[u16; 32], row: &[u32; 3
     }
     let off = vector_start(lens, row, k, q, p);
     let before = words::ones_before(words, directory, off);
-    let bits = lens[q] as usize + lens[p] as usize;
+    let bits = wide(lens[q]) + wide(lens[p]);
     words::place_of_zero(words, directory, off, bits, before, i) - i + 1
 }
 
 // low of position i of track p in each track, 0 beyond the last.
-pub fn lows(words: &[u64], directory: &[u16], lens: &[u16; 32], row: &[u32; 33], k: usize, p: usize, i: usize) -> [u16; 32]
+pub fn lows(
+    words: &[u64],
+    directory: &[u16],
+    lens: &[u16; 32],
+    row: &[u32; 33],
+    k: usize,
+    p: usize,
+    i: usize,
+) -> [u16; 32]
     requires { ⌜ Known (lensOf (now lens)) k (now words) (now directory) (now row) ⌝ }
     requires { ⌜ Standing (lensOf (now lens)) k p i ⌝ }
     ensures { λ r. ⌜ r ≡ table (λ q. cond (ltb q k) (lowAt (lensOf (now (lens .entry))) k (now (words .entry)) p i q) 0) 32 ⌝ }
@@ -104,7 +159,15 @@ pub fn lows(words: &[u64], directory: &[u16], lens: &[u16; 32], row: &[u32; 33],
 }
 
 // high of position i of track p in each track, 0 beyond the last.
-pub fn highs(words: &[u64], directory: &[u16], lens: &[u16; 32], row: &[u32; 33], k: usize, p: usize, i: usize) -> [u16; 32]
+pub fn highs(
+    words: &[u64],
+    directory: &[u16],
+    lens: &[u16; 32],
+    row: &[u32; 33],
+    k: usize,
+    p: usize,
+    i: usize,
+) -> [u16; 32]
     requires { ⌜ Known (lensOf (now lens)) k (now words) (now directory) (now row) ⌝ }
     requires { ⌜ Standing (lensOf (now lens)) k p i ⌝ }
     ensures { λ r. ⌜ r ≡ table (λ q. cond (ltb q k) (highAt (lensOf (now (lens .entry))) k (now (words .entry)) p i q) 0) 32 ⌝ }
@@ -119,7 +182,16 @@ pub fn highs(words: &[u64], directory: &[u16], lens: &[u16; 32], row: &[u32; 33]
 }
 
 // None of the units at these positions, one in each track, needs position j of track q. Position 0 is no unit.
-pub fn none_reaches(words: &[u64], directory: &[u16], lens: &[u16; 32], row: &[u32; 33], k: usize, at: &[u16; 32], q: usize, j: usize) -> bool
+pub fn none_reaches(
+    words: &[u64],
+    directory: &[u16],
+    lens: &[u16; 32],
+    row: &[u32; 33],
+    k: usize,
+    at: &[u16; 32],
+    q: usize,
+    j: usize,
+) -> bool
     requires { ⌜ Known (lensOf (now lens)) k (now words) (now directory) (now row) ⌝ }
     requires { ⌜ Standing (lensOf (now lens)) k q j ⌝ }
     requires { ⌜ ((p : ℕ) → p < k → getD (now at) p 0 ≤ lensOf (now lens) p) ⌝ }
@@ -127,7 +199,7 @@ pub fn none_reaches(words: &[u64], directory: &[u16], lens: &[u16; 32], row: &[u
 {
     let mut p: usize = 0;
     while p < k {
-        let i = at[p] as usize;
+        let i = wide(at[p]);
         if i != 0 && reaches(words, directory, lens, row, k, p, i, q, j) {
             return false;
         }
@@ -137,7 +209,16 @@ pub fn none_reaches(words: &[u64], directory: &[u16], lens: &[u16; 32], row: &[u
 }
 
 // Position i of track p needs none of the units at these positions, one in each track. A position past the end is no unit.
-pub fn reaches_none(words: &[u64], directory: &[u16], lens: &[u16; 32], row: &[u32; 33], k: usize, p: usize, i: usize, at: &[u16; 32]) -> bool
+pub fn reaches_none(
+    words: &[u64],
+    directory: &[u16],
+    lens: &[u16; 32],
+    row: &[u32; 33],
+    k: usize,
+    p: usize,
+    i: usize,
+    at: &[u16; 32],
+) -> bool
     requires { ⌜ Known (lensOf (now lens)) k (now words) (now directory) (now row) ⌝ }
     requires { ⌜ Standing (lensOf (now lens)) k p i ⌝ }
     requires { ⌜ ((q : ℕ) → q < k → 1 ≤ getD (now at) q 0) ⌝ }
@@ -145,8 +226,8 @@ pub fn reaches_none(words: &[u64], directory: &[u16], lens: &[u16; 32], row: &[u
 {
     let mut q: usize = 0;
     while q < k {
-        let j = at[q] as usize;
-        if j <= lens[q] as usize && reaches(words, directory, lens, row, k, p, i, q, j) {
+        let j = wide(at[q]);
+        if j <= wide(lens[q]) && reaches(words, directory, lens, row, k, p, i, q, j) {
             return false;
         }
         q += 1;

@@ -6,15 +6,15 @@ use rules::Verdict;
 ghost use Prim.Native.Nat.{ℕ, _+_, _*_, _≤_, _<_};
 ghost use mathlib.Core.Path.{_≡_};
 ghost use lib.ListN.{length, getD};
-ghost use Rattle.rules.specs.Ranges.{table};
-ghost use Rattle.rules.specs.Listing.{listing, size};
-ghost use Rattle.rules.specs.Order.{soundVerdict};
-ghost use Rattle.rules.specs.Layout.{offset};
-ghost use Rattle.rules.specs.Index.{lensOf, builtWork, builtWords, builtCount};
+ghost use Rattle.rules.specs.Ranges.{first, table};
+ghost use Rattle.rules.specs.Listing.{listing};
+ghost use Rattle.rules.specs.Order.{unsound};
+ghost use Rattle.rules.specs.Layout.{offset, wordCount};
+ghost use Rattle.rules.specs.Index.{lensOf, builtWork, builtWords, builtDirectory, builtCount};
 ghost use Rattle.rules.specs.Outcomes.{buildOutcome, emptyHead};
 ghost use Rattle.rules.proofs.Accepted.{Accepted};
 ghost use Rattle.layout.specs.Starts.{rowStarts};
-ghost use Rattle.build.specs.Ones.{OnesSet, outcome};
+ghost use Rattle.build.specs.Ones.{OnesSet, Given, outcome};
 
 // ---- the words
 
@@ -31,9 +31,11 @@ fn clear_words(words: &mut [u64])
 // Sets the 1 of unit i + 1, of track p, in each of the vectors of p, which start at bit start.
 fn set_ones(words: &mut [u64], work: &[u16], lens: &[u16; 32], k: usize, i: usize, p: usize, start: usize)
     requires { ⌜ (p < k) × (k ≤ 32) × (i < 1024) × (i * k + k ≤ length (now work)) ⌝ }
+    requires { ⌜ (length (now words) ≡ wordCount (lensOf (now lens)) k) × (length (now words) ≤ 1024) ⌝ }
     requires { ⌜ start ≡ offset (lensOf (now lens)) k p 0 ⌝ }
-    requires { ⌜ ((q : ℕ) → q < k → offset (lensOf (now lens)) k p q + getD (now work) (i * k + p) 0 + getD (now work) (i * k + q) 0 < 64 * length (now words)) ⌝ }
-    ensures { λ _. ⌜ OnesSet (lensOf (now (lens .entry))) k (now (work .entry)) p i (now (words .entry)) (now (words .exit)) ⌝ }
+    requires { ⌜ getD (now work) (i * k + p) 0 < lensOf (now lens) p ⌝ }
+    requires { ⌜ ((q : ℕ) → q < k → getD (now work) (i * k + q) 0 ≤ lensOf (now lens) q) ⌝ }
+    ensures { λ _. ⌜ OnesSet (lensOf (now (lens .entry))) k (now (work .entry)) p i k (now (words .entry)) (now (words .exit)) ⌝ }
 {
     let own = work[i * k + p] as usize;
     let mut off = start;
@@ -47,11 +49,10 @@ fn set_ones(words: &mut [u64], work: &[u16], lens: &[u16; 32], k: usize, i: usiz
     }
 }
 
+// The words of the index, from the rows of the work area; lens and row are the lengths of the tracks and where their vectors start.
 fn fill_words(words: &mut [u64], tracks: &[u16], needs: &[u16], work: &[u16], lens: &[u16; 32], row: &[u32; 33], k: usize)
-    requires { ⌜ Accepted (listing (length (now tracks)) k (now tracks) (now needs)) ⌝ }
-    requires { ⌜ soundVerdict (listing (length (now tracks)) k (now tracks) (now needs)) ≡ Verdict.Fine ⌝ }
-    requires { ⌜ now work ≡ builtWork (listing (length (now tracks)) k (now tracks) (now needs)) ⌝ }
-    requires { ⌜ (now lens ≡ table (size (now tracks)) 32) × (now row ≡ rowStarts (lensOf (now lens)) k) ⌝ }
+    requires { ⌜ Given (listing (length (now tracks)) k (now tracks) (now needs)) (now lens) (now work) ⌝ }
+    requires { ⌜ now row ≡ rowStarts (lensOf (now lens)) k ⌝ }
     requires { ⌜ length (now words) ≡ builtCount (listing (length (now tracks)) k (now tracks) (now needs)) ⌝ }
     ensures { λ _. ⌜ now (words .exit) ≡ builtWords (listing (length (now (tracks .entry))) k (now (tracks .entry)) (now (needs .entry))) ⌝ }
 {
@@ -62,6 +63,41 @@ fn fill_words(words: &mut [u64], tracks: &[u16], needs: &[u16], work: &[u16], le
         set_ones(words, work, lens, k, i, p, row[p] as usize);
         i += 1;
     }
+}
+
+// The words and then their directory, each area as long as the index asks.
+fn fill_index(
+    words: &mut [u64],
+    directory: &mut [u16],
+    tracks: &[u16],
+    needs: &[u16],
+    work: &[u16],
+    lens: &[u16; 32],
+    row: &[u32; 33],
+    k: usize,
+)
+    requires { ⌜ Given (listing (length (now tracks)) k (now tracks) (now needs)) (now lens) (now work) ⌝ }
+    requires { ⌜ now row ≡ rowStarts (lensOf (now lens)) k ⌝ }
+    requires { ⌜ length (now words) ≡ builtCount (listing (length (now tracks)) k (now tracks) (now needs)) ⌝ }
+    requires { ⌜ length (now directory) ≡ builtCount (listing (length (now tracks)) k (now tracks) (now needs)) ⌝ }
+    ensures { λ _. ⌜ now (words .exit) ≡ builtWords (listing (length (now (tracks .entry))) k (now (tracks .entry)) (now (needs .entry))) ⌝ }
+    ensures { λ _. ⌜ now (directory .exit) ≡ builtDirectory (listing (length (now (tracks .entry))) k (now (tracks .entry)) (now (needs .entry))) ⌝ }
+{
+    fill_words(words, tracks, needs, work, lens, row, k);
+    words::fill_directory(words, directory, directory.len());
+}
+
+// ---- the rows
+
+// Fills the work area, which is as long as the rows; answers the index of the first unit of an unsound track, or the count of units.
+fn fill_work(tracks: &[u16], needs: &[u16], work: &mut [u16], k: usize) -> usize
+    requires { ⌜ Accepted (listing (length (now tracks)) k (now tracks) (now needs)) ⌝ }
+    requires { ⌜ length (now work) ≡ length (now tracks) * k ⌝ }
+    ensures { λ r. ⌜ r ≡ first (unsound (listing (length (now (tracks .entry))) k (now (tracks .entry)) (now (needs .entry)))) (length (now (tracks .entry))) ⌝ }
+    ensures { λ _. ⌜ now (work .exit) ≡ builtWork (listing (length (now (tracks .entry))) k (now (tracks .entry)) (now (needs .entry))) ⌝ }
+{
+    rows::fill_rows(tracks, needs, work, k);
+    rows::settle_rows(tracks, needs, work, k)
 }
 
 // ---- the build
@@ -105,13 +141,20 @@ pub fn build(
     if words.len() < count || directory.len() < count || work.len() < entries {
         return refused(Refusal::ShortArea);
     }
-    rows::fill_rows(tracks, needs, &mut work[..entries], tracks_count);
-    let bad = rows::settle_rows(tracks, needs, &mut work[..entries], tracks_count);
+    let bad = fill_work(tracks, needs, &mut work[..entries], tracks_count);
     if bad < tracks.len() {
         return refused(Refusal::UnsoundTrack(bad as u32 + 1));
     }
-    fill_words(&mut words[..count], tracks, needs, &work[..entries], &lens, &row, tracks_count);
-    words::fill_directory(&words[..count], &mut directory[..count], count);
+    fill_index(
+        &mut words[..count],
+        &mut directory[..count],
+        tracks,
+        needs,
+        &work[..entries],
+        &lens,
+        &row,
+        tracks_count,
+    );
     Built {
         head: Head { lens, n, k },
         bits: 2 * n as u32 * (k as u32 - 1),

@@ -25,6 +25,10 @@ unfoldable pub spelled : List ℕ → ℕ → ℕ
 spelled s zero = 0
 spelled s (suc w) = 16 * spelled s w + digitOf (getD s w 0)
 
+-- the number that the first four digits spell, 65,536 where one is no digit
+unfoldable pub fourOf : List ℕ → ℕ
+fourOf s = cond (digits s 4) (spelled s 4) 65536
+
 -- two numbers of four digits each
 unfoldable pub numbersOf : List ℕ → Numbers
 numbersOf s = cond (digits s 8) (Two (spelled s 4) (spelled (drop 4 s) 4)) NotDigits

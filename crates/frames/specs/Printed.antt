@@ -1,6 +1,6 @@
 -- What is printed for each answer, byte by byte. Digits are lower-case hexadecimal, but a refusal's number is in decimal.
 use Prim.Native.Nat.{ℕ, zero, suc, _+_, _/_, _%_}
-use mathlib.Core.Bool.{Bool, true, false, cond}
+use mathlib.Core.Bool.{cond}
 use mathlib.Core.List.{List, [], _∷_, _++_}
 use lib.ListN.{length}
 use lib.Dec.{ltb}

@@ -4,10 +4,9 @@ use rules::PairAnswer;
 use rules::Refusal;
 ghost use Prim.Native.Nat.{_+_, _*_, _≤_, _<_};
 ghost use mathlib.Core.Path.{_≡_};
-ghost use mathlib.Core.List.{_++_, _∷_, []};
-ghost use lib.ListN.{length, take};
+ghost use lib.ListN.{length};
 ghost use Rattle.rules.specs.Ranges.{over};
-ghost use Rattle.frames.specs.Lines.{digitOf, numbersOf, lineOf};
+ghost use Rattle.frames.specs.Lines.{digitOf, fourOf, numbersOf, lineOf};
 ghost use Rattle.frames.specs.Printed.{hexDigit, hexOf, builtLine, refusedLine, pairLine, numberLine, unitsOf, listLine};
 
 // ---- reading
@@ -44,13 +43,15 @@ fn digit(b: u8) -> u8
     }
 }
 
-// The number that four digits spell, 65,536 where one is no digit.
-fn four(a: u8, b: u8, c: u8, d: u8) -> u32
+// The number that the first four digits spell, 65,536 where one is no digit.
+fn four(part: &[u8]) -> u32
+    requires { ⌜ 4 ≤ length (now part) ⌝ }
+    ensures { λ r. ⌜ r ≡ fourOf (now (part .entry)) ⌝ }
 {
-    let w = digit(a) as u32;
-    let x = digit(b) as u32;
-    let y = digit(c) as u32;
-    let z = digit(d) as u32;
+    let w = digit(part[0]) as u32;
+    let x = digit(part[1]) as u32;
+    let y = digit(part[2]) as u32;
+    let z = digit(part[3]) as u32;
     if 15 < w || 15 < x || 15 < y || 15 < z {
         return 65536;
     }
@@ -62,8 +63,8 @@ fn read_numbers(part: &[u8]) -> Numbers
     requires { ⌜ 8 ≤ length (now part) ⌝ }
     ensures { λ r. ⌜ r ≡ numbersOf (now (part .entry)) ⌝ }
 {
-    let a = four(part[0], part[1], part[2], part[3]);
-    let b = four(part[4], part[5], part[6], part[7]);
+    let a = four(part);
+    let b = four(&part[4..]);
     if 65535 < a || 65535 < b {
         return Numbers::NotDigits;
     }
@@ -85,11 +86,16 @@ pub fn read_line(line: &[u8]) -> Line
     let Numbers::Two(a, b) = read_numbers(&line[2..]) else {
         return Line::NoFrame;
     };
-    Line::IsFrame(Frame { kind: high * 16 + low, a, b })
+    Line::IsFrame(Frame {
+        kind: high * 16 + low,
+        a,
+        b,
+    })
 }
 
 // ---- printing: each call fills the start of the area, keeps the rest, and answers how many bytes it wrote
 
+// The byte of a digit.
 fn hex_digit(d: u32) -> u8
     requires { ⌜ d < 16 ⌝ }
     ensures { λ r. ⌜ r ≡ hexDigit d ⌝ }
@@ -111,64 +117,73 @@ fn put_hex(out: &mut [u8], w: usize, x: u32)
     }
 }
 
+// Writes a text.
+fn put_text(out: &mut [u8], text: &[u8])
+    requires { ⌜ length (now text) ≤ length (now out) ⌝ }
+    ensures { λ _. ⌜ now (out .exit) ≡ over (now (out .entry)) (now (text .entry)) ⌝ }
+{
+    let mut i: usize = 0;
+    while i < text.len() {
+        out[i] = text[i];
+        i += 1;
+    }
+}
+
+// Prints `built ` and the bits in eight digits.
 pub fn put_built(out: &mut [u8], bits: u32) -> usize
     requires { ⌜ 20 ≤ length (now out) ⌝ }
     ensures { λ r. ⌜ (r ≡ 15) × (now (out .exit) ≡ over (now (out .entry)) (builtLine bits)) ⌝ }
 {
-    out[0] = 98;
-    out[1] = 117;
-    out[2] = 105;
-    out[3] = 108;
-    out[4] = 116;
-    out[5] = 32;
+    put_text(out, b"built ");
     put_hex(&mut out[6..], 8, bits);
     out[14] = 10;
     15
 }
 
+// Prints `refused `, the number in two decimal digits and the place in eight.
 pub fn put_refused(out: &mut [u8], refusal: Refusal) -> usize
     requires { ⌜ 20 ≤ length (now out) ⌝ }
     ensures { λ r. ⌜ (r ≡ 20) × (now (out .exit) ≡ over (now (out .entry)) (refusedLine refusal)) ⌝ }
 {
-    out[0] = 114;
-    out[1] = 101;
-    out[2] = 102;
-    out[3] = 117;
-    out[4] = 115;
-    out[5] = 101;
-    out[6] = 100;
-    out[7] = 32;
-    let number = rules::number(refusal);
-    out[8] = 48 + number / 10 % 10;
-    out[9] = 48 + number % 10;
-    out[10] = 32;
+    let n = rules::number(refusal);
+    let text = [
+        b'r',
+        b'e',
+        b'f',
+        b'u',
+        b's',
+        b'e',
+        b'd',
+        b' ',
+        48 + n / 10 % 10,
+        48 + n % 10,
+        b' ',
+    ];
+    put_text(out, &text);
     put_hex(&mut out[11..], 8, rules::place(refusal));
     out[19] = 10;
     20
 }
 
+// Prints `yes`, `no`, or the refusal.
 pub fn put_pair(out: &mut [u8], answer: PairAnswer) -> usize
     requires { ⌜ 20 ≤ length (now out) ⌝ }
     ensures { λ r. ⌜ (r ≡ length (pairLine answer)) × (now (out .exit) ≡ over (now (out .entry)) (pairLine answer)) ⌝ }
 {
     match answer {
         PairAnswer::Yes => {
-            out[0] = 121;
-            out[1] = 101;
-            out[2] = 115;
-            out[3] = 10;
+            put_text(out, b"yes\n");
             4
         }
         PairAnswer::No => {
-            out[0] = 110;
-            out[1] = 111;
-            out[2] = 10;
+            put_text(out, b"no\n");
             3
         }
         PairAnswer::Refused(refusal) => put_refused(out, refusal),
     }
 }
 
+// Prints the number in four digits, or the refusal.
 pub fn put_number(out: &mut [u8], answer: NumberAnswer) -> usize
     requires { ⌜ 20 ≤ length (now out) ⌝ }
     ensures { λ r. ⌜ (r ≡ length (numberLine answer)) × (now (out .exit) ≡ over (now (out .entry)) (numberLine answer)) ⌝ }
@@ -196,6 +211,7 @@ fn put_units(out: &mut [u8], units: &[u16])
     }
 }
 
+// Prints the count and the units, four digits each.
 pub fn put_list(out: &mut [u8], units: &[u16]) -> usize
     requires { ⌜ (length (now units) ≤ 1024) × (5 * length (now units) + 5 ≤ length (now out)) ⌝ }
     ensures { λ r. ⌜ (r ≡ 5 * length (now (units .entry)) + 5) × (now (out .exit) ≡ over (now (out .entry)) (listLine (now (units .entry)))) ⌝ }

@@ -18,9 +18,9 @@ use Rattle.rules.specs.Listing.{Listing, track, size, position}
 use Rattle.rules.specs.Order.{needs, step, soundVerdict, low, high}
 use Rattle.rules.specs.Layout.{vectorRoom, offset, roomBits, wordCount}
 use Rattle.rules.specs.Bits.{bit, wordOf, onesBefore}
-use Rattle.rules.specs.Index.{oneAt, builtBit, builtCount, builtWords, builtDirectory, builtHead, builtBits, builtIndex, sizes, vectorOf, vector, lowIn, highIn, whole}
+use Rattle.rules.specs.Index.{oneAt, builtBit, builtCount, builtWords, builtDirectory, builtHead, builtWork, builtBits, builtIndex, sizes, vectorOf, vector, lowIn, highIn, whole}
 use Rattle.rules.specs.Questions.{kind10By, kind11By, kind10, kind11, unitAt}
-use Rattle.rules.proofs.Ranges.{true-or-false, bit1-le, some-yes, some-find, every-same, length-table, getD-table}
+use Rattle.rules.proofs.Ranges.{true-or-false, bit1-le, some-yes, some-find, every-same, length-table, getD-table, length-rows}
 use Rattle.rules.proofs.Verdicts.{and-both}
 use Rattle.rules.proofs.Bits.{Words, digit-word, word-lt, bit-in, onesBefore-le}
 use Rattle.rules.proofs.Places.{FromLow, vector-from-low}
@@ -374,3 +374,9 @@ module _ (c : Listing) (a : Accepted c) (sound : soundVerdict c ≡ Fine) where
     where
       each : (p : ℕ) → p < c .k → ltb (lowIn (builtIndex c) u p) (highIn (builtIndex c) v p) ≡ ltb (low c u p) (high c v p)
       each p row = rw (low-built u p u1 un row, high-built v p v1 vn row)
+
+-- ---- the work area
+
+pub length-work : (c : Listing) → length (builtWork c) ≡ c .n * c .k
+unfolding builtWork
+length-work c = length-rows (λ i q. low c (i + 1) q) (c .k) (c .n)

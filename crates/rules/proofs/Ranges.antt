@@ -9,8 +9,8 @@ use native.Mathlib.Omega.{arith}
 use native.Mathlib.Numerals.{add-one}
 use native.Mathlib.Nat.{le-refl, le-antisymm, add-suc, add-zero, suc-mul, div-add-mod', mod-lt, div-lt-iff-lt-mul}
 use native.Mathlib.Decide.{decLt, decLe, ℕ-discrete}
-use lib.ListN.{length, getD, set, drop, take, length-append, length-drop}
-use lib.Seq.{getD-append-add, getD-append-seam, getD-at, getD-drop, drop-cons, set-append-seam, ext-getD}
+use lib.ListN.{length, getD, set, drop, take, length-append, length-drop, replicate, length-set, length-replicate, getD-replicate}
+use lib.Seq.{getD-append-add, getD-append-seam, getD-at, getD-drop, drop-cons, set-append-seam, ext-getD, drop-length, getD-set-same, getD-set-other}
 use lib.Arith.{digits-lt}
 use lib.ListN.{List·getD-append}
 use lib.Dec.{leb, ltb}
@@ -650,3 +650,53 @@ units-same p q m h = keep-same (λ v. leb 1 v && p v) (λ v. leb 1 v && q v) (su
     at-each : (v : ℕ) → v < suc m → (leb 1 v && p v) ≡ (leb 1 v && q v)
     at-each zero l = refl
     at-each (suc v) l = rw (h (suc v) (omega arith) (omega arith))
+
+-- ---- a table that is filled from its start
+
+module _ (f : ℕ → ℕ) (m : ℕ) where
+  -- the first i entries are written, and 0 stands beyond
+  abbrev pub tableTo : ℕ → List ℕ
+  tableTo i = table (λ j. cond (ltb j i) (f j) 0) m
+
+  pub table-to-none : replicate m 0 ≡ tableTo 0
+  table-to-none =
+      table-is _ (replicate m 0) m (length-replicate m 0) (λ j l. getD-replicate m j 0 0 l ∙ rw (le-ltb j 0 (omega arith)))
+
+  pub table-to-next : (i : ℕ) → i < m → set (tableTo i) i (f i) ≡ tableTo (i + 1)
+  table-to-next i l =
+      table-is _ (set (tableTo i) i (f i)) m (simp (length-set, length-table)) (λ j h. at-each j h (decLt j i) (decLt i j))
+    where
+      kept : (j : ℕ) → j < m → (j ≡ i → ⊥) → getD (set (tableTo i) i (f i)) j 0 ≡ cond (ltb j i) (f j) 0
+      kept j h n = getD-set-other (tableTo i) i j (f i) 0 n ∙ getD-table _ m j h
+
+      at-each : (j : ℕ) → j < m → Dec (j < i) → Dec (i < j) → getD (set (tableTo i) i (f i)) j 0 ≡ cond (ltb j (i + 1)) (f j) 0
+      at-each j h (yes b) a = kept j h (λ e. omega arith) ∙ rw (lt-ltb j i b, lt-ltb j (i + 1) (omega arith))
+      at-each j h (no b) (yes a) =
+          kept j h (λ e. omega arith) ∙ rw (le-ltb j i (omega arith), le-ltb j (i + 1) (omega arith))
+      at-each j h (no b) (no a) =
+          let e : j ≡ i = omega arith in
+          rw (e, lt-ltb i (i + 1) (omega arith)) (getD-set-same (tableTo i) i (f i) 0 (rw length-table l))
+
+-- ---- one more number
+
+-- the count that a found number brings is the greater of what was found before and what is found there
+pub some-bit : (p : ℕ → Bool) (m : ℕ) → bit1 (some p (m + 1)) ≡ max (bit1 (some p m)) (bit1 (p m))
+unfolding some
+some-bit p m = rw add-one (either (some p m) (p m))
+  where
+    either : (a b : Bool) → bit1 (a || b) ≡ max (bit1 a) (bit1 b)
+    either true true = refl
+    either true false = refl
+    either false true = refl
+    either false false = refl
+
+-- ---- an area that is written whole
+
+pub over-whole : (area xs : List ℕ) → length area ≡ length xs → over area xs ≡ xs
+unfolding over
+over-whole area xs h = rw (sym h, drop-length) (append-nil xs)
+
+-- a part lent from the front, which comes back as xs, before what was not lent
+pub over-part : (area part xs : List ℕ) (m : ℕ) → part ≡ xs → length xs ≡ m → part ++ drop m area ≡ over area xs
+unfolding over
+over-part area part xs m e h = rw (e, sym h)

@@ -53,7 +53,8 @@ fn directory_true(words: &[u64], directory: &[u16], count: usize) -> bool
     }
     let mut j: usize = 1;
     while j < count {
-        if directory[j] as u32 != directory[j - 1] as u32 + u64::count_ones(words[j - 1]) {
+        let i = j - 1;
+        if directory[j] as u32 != directory[i] as u32 + u64::count_ones(words[i]) {
             return false;
         }
         j += 1;
@@ -84,6 +85,7 @@ fn row_true(words: &[u64], directory: &[u16], lens: &[u16; 32], k: usize, p: usi
     true
 }
 
+// Each vector p,q has as many ones as p has units; row has the first bit of the vectors of each p.
 fn vectors_true(words: &[u64], directory: &[u16], lens: &[u16; 32], row: &[u32; 33], k: usize) -> bool
     requires { ⌜ Lengths (lensOf (now lens)) k ⌝ }
     requires { ⌜ Areas (lensOf (now lens)) k (now words) (now directory) ⌝ }

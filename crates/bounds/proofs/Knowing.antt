@@ -1,0 +1,28 @@
+-- An index that is whole is known to be so. Assumes nothing.
+use Prim.Native.Nat.{ℕ}
+use mathlib.Core.Path.{_≡_}
+use mathlib.Core.Bool.{true}
+use mathlib.Core.List.{List}
+use native.Mathlib.Omega.{arith}
+use Rattle.rules.specs.Index.{Index, sizes, whole}
+use Rattle.rules.proofs.Layouts.{vector-other}
+use Rattle.rules.proofs.Wholes.{Whole, whole-is, units-sum}
+use Rattle.layout.specs.Starts.{rowStarts}
+use Rattle.bounds.specs.Known.{Known}
+
+pub known-whole : (x : Index) (row : List ℕ) → whole x ≡ true → row ≡ rowStarts (sizes x) (x .head .k)
+    → Known (sizes x) (x .head .k) (x .words) (x .directory) row
+known-whole x row h e = go (whole-is x h)
+  where
+    go : Whole x → Known (sizes x) (x .head .k) (x .words) (x .directory) row
+    go good = record {
+      some-track = good .k-in .0;
+      few-tracks = good .k-in .1;
+      few-units = omega (arith, units-sum x good, good .n-in .1);
+      used = good .used;
+      words-reach = good .words-reach;
+      directory-reach = good .directory-reach;
+      true-there = good .true-there;
+      ones = λ p q l h n. rw (vector-other (sizes x) p q n) (good .ones p q l h n);
+      starts = e;
+    }

@@ -1,0 +1,67 @@
+-- `bounds::lows`: after q turns low stands for the tracks below q. Assumes nothing.
+use Prim.Native.Nat.{_-_, _≤_}
+use mathlib.Core.Path.{_≡_, _∙_}
+use native.Mathlib.Omega.{arith}
+use Rattle.rules.specs.Index.{lensOf, lowAt}
+use Rattle.rules.proofs.Ranges.{tableTo, table-to-none, table-to-next}
+use Rattle.bounds.proofs.Vectors.{length-few, low-most}
+use borrow.Author.Needs.{needs}
+use Rattle.bounds.proofs.lows.Statement.{statement}
+use Rattle.bounds.proofs.lows.Tie as tie
+
+abbrev Inv-loop : tie.InvT-loop
+Inv-loop words directory lens row k p i at₀ q₀ at q = (q ≤ k) × (at ≡ tableTo (lowAt (lensOf lens) k words p i) 32 q)
+
+abbrev μ-loop : tie.MeasureT-loop
+μ-loop words directory lens row k p i at₀ q₀ at q = k - q
+
+loop-holds : tie.Need-loop-holds Inv-loop μ-loop
+loop-holds c = (omega arith, table-to-none _ 32)
+
+low-at-requires : tie.Need-low-at-requires Inv-loop μ-loop
+low-at-requires c κs = search needs
+
+cast-at : tie.Need-cast-at Inv-loop μ-loop
+cast-at c =
+    let l = c .before .before in
+    let g = l .before .before .before in
+    let there = c .before .loop-test .taken in
+    omega (arith, c .low-at .ensures, low-most (g .pre .0) (l .loop .q) (g .pre .1) there, length-few (g .pre .0) (l .loop .q) there)
+
+mul-at : tie.Need-mul-at Inv-loop μ-loop
+mul-at c = omega arith
+
+array-write-at : tie.Need-array-write-at Inv-loop μ-loop
+array-write-at c = omega arith
+
+add-q : tie.Need-add-q Inv-loop μ-loop
+add-q c = omega arith
+
+loop-less : tie.Need-loop-less Inv-loop μ-loop
+loop-less c = omega arith
+
+loop-again : tie.Need-loop-again Inv-loop μ-loop
+loop-again c =
+    let l = c .before .before in
+    (omega arith, rw (c .low-at .ensures, l .loop .inv .1) (table-to-next _ 32 (l .loop .q) (omega arith)))
+
+returns : tie.Need-returns Inv-loop μ-loop
+returns c =
+    let e : c .before .loop .q ≡ c .before .before .before .before .args .k = omega arith in
+    c .before .loop .inv .1 ∙ rw e
+
+pub lows-spec : {M : Type 1} → statement M
+lows-spec =
+    tie.close
+    (tie.spec
+    Inv-loop
+    μ-loop
+    loop-holds
+    low-at-requires
+    cast-at
+    mul-at
+    array-write-at
+    add-q
+    loop-less
+    loop-again
+    returns)

@@ -1,0 +1,76 @@
+-- `bounds::reaches`: in its own track a unit reaches all before it, and in another track one rank tells. Assumes nothing.
+use Prim.Native.Nat.{ℕ, _+_, _*_, _≤_}
+use mathlib.Core.Path.{sym}
+use native.Mathlib.Omega.{arith}
+use borrow.Author.Needs.{needs}
+use Rattle.rules.specs.Layout.{wordCount}
+use Rattle.rules.specs.Index.{lensOf}
+use Rattle.rules.proofs.Bits.{rank-le}
+use Rattle.bounds.proofs.Vectors.{Vector, words-few, word-true, vector-within, low-by-order, low-by-rank}
+use Rattle.bounds.proofs.reaches.Statement.{statement}
+use Rattle.bounds.proofs.reaches.Tie as tie
+
+abbrev entry : tie.After-vector-start → tie.Start
+entry c = c .before .before .before .before
+
+vector : (c : tie.After-vector-start) → Vector (entry c .args .k) (entry c .args .p) (entry c .args .q)
+vector c = record { here = entry c .pre .1 .0 .in-track; there = entry c .pre .1 .1 .in-track; other = c .before .if1 .left }
+
+-- the words that the index needs
+abbrev count : tie.After-vector-start → ℕ
+count c = wordCount (lensOf (entry c .args .lens .now)) (entry c .args .k)
+
+-- the bits that are counted stand in these words, which are few
+within : (c : tie.After-vector-start) → (c .vector-start .result + (entry c .args .i + entry c .args .j) ≤ 64 * count c) × (count c ≤ 992)
+within c =
+    let g = entry c in
+    omega (arith, c .vector-start .ensures, vector-within (g .pre .0) (vector c), words-few (g .pre .0), g .pre .1 .0 .to, g .pre .1 .1 .to)
+
+returns : tie.Need-returns
+returns c =
+    let g = c .before .before .before in
+    sym (low-by-order (g .pre .0) (g .args .q) (g .args .j) (g .pre .1 .0) (c .if1 .taken))
+
+vector-start-requires : tie.Need-vector-start-requires
+vector-start-requires c κs = search needs
+
+add-ones-before : tie.Need-add-ones-before
+add-ones-before c = omega (arith, within c)
+
+add-ones-before-2 : tie.Need-add-ones-before-2
+add-ones-before-2 c = omega (arith, within c)
+
+sub-ones-before : tie.Need-sub-ones-before
+sub-ones-before c = search needs
+
+ones-before-requires : tie.Need-ones-before-requires
+ones-before-requires c κs = word-true (entry c .pre .0) _ (omega (arith, within c))
+
+ones-before-requires-2 : tie.Need-ones-before-requires-2
+ones-before-requires-2 c κs = word-true (entry (c .before) .pre .0) _ (omega (arith, within (c .before)))
+
+add-result : tie.Need-add-result
+add-result c =
+    let o = c .before .before in
+    omega (arith, within o, rank-le (entry o .args .words .now) (o .vector-start .result))
+
+returns-2 : tie.Need-returns-2
+returns-2 c =
+    let o = c .before .before in
+    let g = entry o in
+    rw (c .before .ones-before .ensures, c .ones-before2 .ensures, o .vector-start .ensures)
+    (sym (low-by-rank (g .pre .0) (g .args .j) (g .pre .1 .0) (vector o)))
+
+pub reaches-spec : {M : Type 1} → statement M
+reaches-spec =
+    tie.close
+    (tie.spec
+    returns
+    vector-start-requires
+    add-ones-before
+    add-ones-before-2
+    sub-ones-before
+    ones-before-requires
+    ones-before-requires-2
+    add-result
+    returns-2)
