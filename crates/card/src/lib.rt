@@ -173,9 +173,9 @@ fn pair_answer(card: Card, direct: bool, u: u16, v: u16, tracks: &[u16], words: 
         return PairAnswer::Refused(Refusal::BadArgument(2));
     }
     let yes = if direct {
-        questions::step_known(tracks, words, directory, &lens, &row, k, u, v)
+        known::is_step(tracks, words, directory, &lens, &row, k, u, v)
     } else {
-        questions::needs_known(tracks, words, directory, &lens, &row, k, u, v)
+        known::needs(tracks, words, directory, &lens, &row, k, u, v)
     };
     if yes { PairAnswer::Yes } else { PairAnswer::No }
 }
@@ -189,15 +189,15 @@ fn list_answer(card: Card, kind: u8, u: u16, tracks: &[u16], words: &[u64], dire
         return NumberAnswer::Refused(Refusal::BadArgument(1));
     }
     if kind == 0x12 {
-        return questions::needed_known(tracks, words, directory, &lens, &row, k, u, list, 0);
+        return known::needed(tracks, words, directory, &lens, &row, k, u, list, 0);
     }
     if kind == 0x13 {
-        return questions::needing_known(tracks, words, directory, &lens, &row, k, u, list, 0);
+        return known::needing(tracks, words, directory, &lens, &row, k, u, list, 0);
     }
     if kind == 0x14 {
-        return questions::steps_known(tracks, words, directory, &lens, &row, k, u, list, 0);
+        return known::steps(tracks, words, directory, &lens, &row, k, u, list, 0);
     }
-    questions::steps_up_known(tracks, words, directory, &lens, &row, k, u, list, 0)
+    known::steps_up(tracks, words, directory, &lens, &row, k, u, list, 0)
 }
 
 fn number_answer(card: Card, kind: u8, u: u16, q: u16, tracks: &[u16], words: &[u64], directory: &[u16]) -> NumberAnswer
@@ -209,15 +209,15 @@ fn number_answer(card: Card, kind: u8, u: u16, q: u16, tracks: &[u16], words: &[
         return NumberAnswer::Refused(Refusal::BadArgument(1));
     }
     if kind == 0x16 {
-        return NumberAnswer::Number(questions::stage_known(tracks, words, directory, &lens, &row, k, u));
+        return NumberAnswer::Number(known::stage(tracks, words, directory, &lens, &row, k, u));
     }
     if card.k <= q {
         return NumberAnswer::Refused(Refusal::BadArgument(2));
     }
     if kind == 0x17 {
-        return NumberAnswer::Number(questions::unit_low_known(tracks, words, directory, &lens, &row, k, u, q));
+        return NumberAnswer::Number(known::unit_low(tracks, words, directory, &lens, &row, k, u, q));
     }
-    NumberAnswer::Number(questions::unit_high_known(tracks, words, directory, &lens, &row, k, u, q))
+    NumberAnswer::Number(known::unit_high(tracks, words, directory, &lens, &row, k, u, q))
 }
 
 fn put_answer(answer: NumberAnswer, list: &[u16], out: &mut [u8]) -> usize

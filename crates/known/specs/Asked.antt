@@ -7,7 +7,6 @@ use lib.ListN.{length, getD}
 use lib.Dec.{leb, ltb}
 use Rattle.rules.specs.Ranges.{table}
 use Rattle.rules.specs.Index.{Index, index, lensOf, whole}
-use Rattle.rules.specs.Listing.{track}
 use Rattle.layout.specs.Starts.{rowStarts}
 use Rattle.bounds.specs.Known.{noneReaches, reachesNone}
 
