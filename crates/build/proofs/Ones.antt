@@ -1,8 +1,8 @@
 -- The ones of a unit set vector by vector, and the words with the ones of the units so far: at the end these are the words of the index.
 -- Assumes nothing.
-use Prim.Native.Nat.{ℕ, suc, _+_, _-_, _*_, _/_, _%_, _^_, _≤_, _<_, max}
+use Prim.Native.Nat.{ℕ, _+_, _*_, _/_, _≤_, _<_, max}
 use mathlib.Core.Path.{_≡_, refl, sym, ap, _∙_}
-use mathlib.Core.Bool.{Bool, true, false, not, _&&_}
+use mathlib.Core.Bool.{Bool, not, _&&_}
 use mathlib.Core.List.{List}
 use mathlib.Core.Logic.{_≢_}
 use native.Mathlib.Omega.{arith}
@@ -15,7 +15,7 @@ use borrow.Author.Tests.{eq-eqb, ne-eqb}
 use Rattle.rules.specs.Ranges.{bit1, some, table, over}
 use Rattle.rules.specs.Listing.{Listing, track, size, position}
 use Rattle.rules.specs.Order.{low}
-use Rattle.rules.specs.Layout.{offset, vectorBits, vectorRoom, roomBits, wordCount}
+use Rattle.rules.specs.Layout.{offset, roomBits, wordCount}
 use Rattle.rules.specs.Bits.{digit, bit, onesBefore}
 use Rattle.rules.specs.Index.{oneAt, builtBit, builtCount, builtWords, builtDirectory, builtWork, lensOf}
 use Rattle.rules.proofs.Ranges.{bit1-le, some-bit, some-same, length-table, getD-table, getD-rows, over-whole}

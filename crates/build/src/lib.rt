@@ -29,8 +29,16 @@ fn clear_words(words: &mut [u64])
 }
 
 // Sets the 1 of unit i + 1, of track p, in each of the vectors of p, which start at bit start.
-fn set_ones(words: &mut [u64], work: &[u16], lens: &[u16; 32], k: usize, i: usize, p: usize, start: usize)
-    requires { ⌜ (p < k) × (k ≤ 32) × (i < 1024) × (i * k + k ≤ length (now work)) ⌝ }
+fn set_ones(
+    words: &mut [u64],
+    work: &[u16],
+    lens: &[u16; 32],
+    k: usize,
+    i: usize,
+    p: usize,
+    start: usize,
+)
+    requires { ⌜ (p < k) × (k ≤ 32) × (i * k + k ≤ length (now work)) ⌝ }
     requires { ⌜ (length (now words) ≡ wordCount (lensOf (now lens)) k) × (length (now words) ≤ 1024) ⌝ }
     requires { ⌜ start ≡ offset (lensOf (now lens)) k p 0 ⌝ }
     requires { ⌜ getD (now work) (i * k + p) 0 < lensOf (now lens) p ⌝ }
@@ -50,7 +58,15 @@ fn set_ones(words: &mut [u64], work: &[u16], lens: &[u16; 32], k: usize, i: usiz
 }
 
 // The words of the index, from the rows of the work area; lens and row are the lengths of the tracks and where their vectors start.
-fn fill_words(words: &mut [u64], tracks: &[u16], needs: &[u16], work: &[u16], lens: &[u16; 32], row: &[u32; 33], k: usize)
+fn fill_words(
+    words: &mut [u64],
+    tracks: &[u16],
+    needs: &[u16],
+    work: &[u16],
+    lens: &[u16; 32],
+    row: &[u32; 33],
+    k: usize,
+)
     requires { ⌜ Given (listing (length (now tracks)) k (now tracks) (now needs)) (now lens) (now work) ⌝ }
     requires { ⌜ now row ≡ rowStarts (lensOf (now lens)) k ⌝ }
     requires { ⌜ length (now words) ≡ builtCount (listing (length (now tracks)) k (now tracks) (now needs)) ⌝ }
@@ -105,7 +121,11 @@ fn fill_work(tracks: &[u16], needs: &[u16], work: &mut [u16], k: usize) -> usize
 fn empty_head() -> Head
     ensures { λ r. ⌜ r ≡ emptyHead ⌝ }
 {
-    Head { lens: [0u16; 32], n: 0, k: 0 }
+    Head {
+        lens: [0u16; 32],
+        n: 0,
+        k: 0,
+    }
 }
 
 fn refused(refusal: Refusal) -> Built

@@ -6,31 +6,22 @@ use borrow.Author.Needs.{needs}
 use Rattle.build.proofs.Ones.{directory-fits, directory-is}
 use Rattle.build.proofs.fill_index.Statement.{statement}
 use Rattle.build.proofs.fill_index.Tie as tie
-use Rattle.build.proofs.fill_index.Reads as reads
-use Rattle.build.proofs.fill_index.Lts as lts
-use Rattle.build.proofs.fill_words.Reads as fill-words-reads
-use Rattle.words.proofs.fill_directory.Reads as fill-directory-reads
 
--- src/lib.rt:86:5
 fill-words-requires : tie.Need-fill-words-requires
 fill-words-requires c κs = search needs
 
--- src/lib.rt:87:5
 fill-directory-requires : tie.Need-fill-directory-requires
 fill-directory-requires c κs =
     let s = c .before .before .before .before .before .before .before .before .before .before .before in
     let d = directory-fits _ _ _ (c .before .before .before .before .fill-words .ensures) (s .pre .1 .1 .1) (s .pre .0 .accepted) in
     (d .0, (le-refl _, d .1))
 
--- src/lib.rt:69:1
 same-length : tie.Need-same-length
 same-length c = search needs
 
--- src/lib.rt:69:1
 same-length-2 : tie.Need-same-length-2
 same-length-2 c = search needs
 
--- src/lib.rt:69:1
 returns : tie.Need-returns
 returns c =
     let s = c .before .before .before .before .before .before .before .before .before .before .before .before .before .before in

@@ -1,5 +1,5 @@
 -- `build::fill_words` meets its contract. After i turns the words have the ones of the first i units and no other. Assumes nothing.
-use Prim.Native.Nat.{ℕ, _+_, _-_, _*_, _≤_, _<_}
+use Prim.Native.Nat.{ℕ, _-_, _≤_, _<_}
 use mathlib.Core.Path.{_≡_, sym, ap, _∙_}
 use native.Mathlib.Omega.{arith}
 use borrow.Author.Needs.{needs}
@@ -8,14 +8,10 @@ use Rattle.rules.specs.Listing.{Listing, listing}
 use Rattle.rules.specs.Layout.{offset}
 use Rattle.rules.specs.Index.{lensOf}
 use Rattle.rules.proofs.Layouts.{offset-within, words-hold}
-use Rattle.layout.proofs.Rows.{starts-at, starts-length}
+use Rattle.layout.proofs.Rows.{starts-at}
 use Rattle.build.proofs.Ones.{count-is, count-few, track-in, row-fits, own-fits, low-fits, Filled, filled-start, filled-next, filled-all}
 use Rattle.build.proofs.fill_words.Statement.{statement}
 use Rattle.build.proofs.fill_words.Tie as tie
-use Rattle.build.proofs.fill_words.Reads as reads
-use Rattle.build.proofs.fill_words.Lts as lts
-use Rattle.build.proofs.clear_words.Reads as clear-words-reads
-use Rattle.build.proofs.set_ones.Reads as set-ones-reads
 
 abbrev Inv-loop : tie.InvT-loop
 Inv-loop words₀ tracks needs work lens row k i₀ words i = Filled (listing (length tracks) k tracks needs) words i
@@ -77,10 +73,13 @@ set-ones-requires c κs =
     let t = c .before .before .before in
     let g = start t .pre .0 in
     let l = t .loop-test .taken in
-    let long = t .before .loop .inv .long in
-    ((few t .0, few t .1, omega (arith, few t), row-fits g (unit t) l),
-    ((long ∙ sym (count-is (g .accepted) (g .lens-are)), omega (arith, long, count-few (g .accepted))),
-    (start-is t, (own-fits g (unit t) l, low-fits g (unit t) l))))
+    let long = t .before .loop .inv .long in (
+      (few t .0, few t .1, row-fits g (unit t) l),
+      (
+        (long ∙ sym (count-is (g .accepted) (g .lens-are)), omega (arith, long, count-few (g .accepted))),
+        (start-is t, (own-fits g (unit t) l, low-fits g (unit t) l)),
+      ),
+    )
 
 add-i : tie.Need-add-i Inv-loop μ-loop
 add-i c = omega (arith, few (c .before .before .before .before .before .before))

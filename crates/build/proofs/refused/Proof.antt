@@ -1,15 +1,11 @@
+-- `build::refused` meets its contract, by that of `empty_head`. Assumes nothing.
 use borrow.Author.Needs.{needs}
 use Rattle.build.proofs.refused.Statement.{statement}
 use Rattle.build.proofs.refused.Tie as tie
-use Rattle.build.proofs.refused.Reads as reads
-use Rattle.build.proofs.refused.Lts as lts
-use Rattle.build.proofs.empty_head.Reads as empty-head-reads
 
--- src/lib.rt:79:15
 empty-head-requires : tie.Need-empty-head-requires
 empty-head-requires c κs = search needs
 
--- src/lib.rt:75:1
 returns : tie.Need-returns
 returns c = rw (c .empty-head .ensures)
 

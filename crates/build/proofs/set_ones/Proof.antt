@@ -1,7 +1,7 @@
 -- `build::set_ones` meets its contract. After q turns the ones of the first q vectors of the row are set, and off is the first bit of the
 -- next. Each place lies in its vector, so within the words. Assumes nothing.
-use Prim.Native.Nat.{ℕ, _+_, _-_, _*_, _/_, _≤_, _<_}
-use mathlib.Core.Path.{_≡_, sym, _∙_}
+use Prim.Native.Nat.{ℕ, _+_, _-_, _*_, _≤_, _<_}
+use mathlib.Core.Path.{_≡_, _∙_}
 use mathlib.Core.Logic.{_≢_, ⊎-elim}
 use native.Mathlib.Omega.{arith}
 use lib.ListN.{length, getD}
@@ -12,10 +12,6 @@ use Rattle.build.specs.Ones.{OnesSet}
 use Rattle.build.proofs.Ones.{ones-none, ones-own, ones-next, one-within}
 use Rattle.build.proofs.set_ones.Statement.{statement}
 use Rattle.build.proofs.set_ones.Tie as tie
-use Rattle.build.proofs.set_ones.Reads as reads
-use Rattle.build.proofs.set_ones.Lts as lts
-use Rattle.layout.proofs.vector_room.Reads as vector-room-reads
-use Rattle.words.proofs.set_bit.Reads as set-bit-reads
 
 abbrev Inv-loop : tie.InvT-loop
 Inv-loop words₀ work lens k i p start own off₀ q₀ words off q =
@@ -64,8 +60,8 @@ one-in : (c : tie.In-loop Inv-loop μ-loop) → c .before .loop .q ≢ start c .
 one-in c ne =
     let s = lensOf (start c .args .lens .now) in
     let inside =
-        one-within s (start c .args .k) (start c .args .p) (c .before .loop .q) (entry c (start c .args .p)) (entry c (c .before .loop .q)) (start c .pre .0 .0) (omega arith) ne
-        (start c .pre .1 .1 .1 .0) (start c .pre .1 .1 .1 .1 (c .before .loop .q) (omega arith)) in
+    one-within s (start c .args .k) (start c .args .p) (c .before .loop .q) (entry c (start c .args .p)) (entry c (c .before .loop .q)) (start c .pre .0 .0) (omega arith) ne
+    (start c .pre .1 .1 .1 .0) (start c .pre .1 .1 .1 .1 (c .before .loop .q) (omega arith)) in
     omega (arith, inside, c .before .loop .inv .1, c .before .loop .inv .2 .same-length, start c .pre .1 .0)
 
 add-set-bit : tie.Need-add-set-bit Inv-loop μ-loop
@@ -107,12 +103,14 @@ loop-less c = omega arith
 loop-again : tie.Need-loop-again Inv-loop μ-loop
 loop-again c =
     let s = start (c .before .before) in
-    let inv = c .before .before .before .loop .inv in
-    (omega arith, omega (arith, c .vector-room .ensures, offset-next (lensOf (s .args .lens .now)) (s .args .k) (s .args .p) (c .before .before .before .loop .q)),
-    ⊎-elim 
-    (λ w. rw (w .6 ∙ w .3 .ensures) (ones-next _ _ _ _ _ _ _ _ _ (w .0 .taken) (omega arith) (omega (arith, one-in (c .before .before) (w .0 .taken))) (inv .2)))
-    (λ w. rw (w .1) (ones-own _ _ _ _ _ _ _ _ (w .0 .left) (inv .2)))
-     (c .before .if1 .came))
+    let inv = c .before .before .before .loop .inv in (
+      omega arith,
+      omega (arith, c .vector-room .ensures, offset-next (lensOf (s .args .lens .now)) (s .args .k) (s .args .p) (c .before .before .before .loop .q)),
+      ⊎-elim
+          (λ w. rw (w .6 ∙ w .3 .ensures) (ones-next _ _ _ _ _ _ _ _ _ (w .0 .taken) (omega arith) (omega (arith, one-in (c .before .before) (w .0 .taken))) (inv .2)))
+          (λ w. rw (w .1) (ones-own _ _ _ _ _ _ _ _ (w .0 .left) (inv .2)))
+          (c .before .if1 .came),
+    )
 
 same-length : tie.Need-same-length Inv-loop μ-loop
 same-length c = c .before .loop .inv .2 .same-length

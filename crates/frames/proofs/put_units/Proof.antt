@@ -37,10 +37,10 @@ add-put-hex : tie.Need-add-put-hex Inv-loop μ-loop
 add-put-hex c = omega arith
 
 sub-put-hex : tie.Need-sub-put-hex Inv-loop μ-loop
-sub-put-hex c = omega (arith, length-set (c .before .loop .out) (5 * c .before .loop .i) 32)
+sub-put-hex c = rw length-set (omega arith)
 
 part-put-hex-start : tie.Need-part-put-hex-start Inv-loop μ-loop
-part-put-hex-start c = omega (arith, length-set (c .before .loop .out) (5 * c .before .loop .i) 32)
+part-put-hex-start c = rw length-set (omega arith)
 
 part-put-hex-end : tie.Need-part-put-hex-end Inv-loop μ-loop
 part-put-hex-end c = omega arith

@@ -89,7 +89,7 @@ returns-3 c =
     sym (kind-read (c .before .before .before .before) ∙ rw e)
 
 mul-t12 : tie.Need-mul-t12
-mul-t12 c = search needs
+mul-t12 c = record { fits = omega (arith, ltb-false) }
 
 add-t20 : tie.Need-add-t20
 add-t20 c = record { fits = omega (arith, ltb-false) }
