@@ -63,7 +63,15 @@ fn directory_true(words: &[u64], directory: &[u16], count: usize) -> bool
 }
 
 // Each of the vectors p,q, which start at bit start with the given ones before them, has as many ones as p has units.
-fn row_true(words: &[u64], directory: &[u16], lens: &[u16; 32], k: usize, p: usize, start: usize, before: usize) -> bool
+fn row_true(
+    words: &[u64],
+    directory: &[u16],
+    lens: &[u16; 32],
+    k: usize,
+    p: usize,
+    start: usize,
+    before: usize,
+) -> bool
     requires { ⌜ Lengths (lensOf (now lens)) k ⌝ }
     requires { ⌜ Areas (lensOf (now lens)) k (now words) (now directory) ⌝ }
     requires { ⌜ (p < k) × (start ≡ offset (lensOf (now lens)) k p 0) × (before ≡ rank (now words) start) ⌝ }
@@ -86,7 +94,13 @@ fn row_true(words: &[u64], directory: &[u16], lens: &[u16; 32], k: usize, p: usi
 }
 
 // Each vector p,q has as many ones as p has units; row has the first bit of the vectors of each p.
-fn vectors_true(words: &[u64], directory: &[u16], lens: &[u16; 32], row: &[u32; 33], k: usize) -> bool
+fn vectors_true(
+    words: &[u64],
+    directory: &[u16],
+    lens: &[u16; 32],
+    row: &[u32; 33],
+    k: usize,
+) -> bool
     requires { ⌜ Lengths (lensOf (now lens)) k ⌝ }
     requires { ⌜ Areas (lensOf (now lens)) k (now words) (now directory) ⌝ }
     requires { ⌜ now row ≡ rowStarts (lensOf (now lens)) k ⌝ }

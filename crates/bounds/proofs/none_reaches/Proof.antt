@@ -1,5 +1,5 @@
 -- `bounds::none_reaches`: after p turns no unit in a track below p reaches position j of track q. Assumes nothing.
-use Prim.Native.Nat.{ℕ, _-_, _≤_}
+use Prim.Native.Nat.{ℕ, _-_, _≤_, _<_}
 use mathlib.Core.Path.{_≡_, refl, sym}
 use mathlib.Core.Bool.{Bool, true}
 use mathlib.Core.Logic.{⊎-elim, inl, inr}
@@ -47,7 +47,7 @@ reaches-requires c κs =
     let w = c .before in
     let l = w .before .before .before in
     let g = entry l in
-    let here = w .before .before .loop-test .taken in
+    let here : l .loop .p < g .args .k = omega arith in
     (g .pre .0, (record { in-track = here; from = omega arith; to = rw (w .wide .ensures .0) (g .pre .1 .1 (l .loop .p) here) }, g .pre .1 .0))
 
 returns : tie.Need-returns Inv-loop μ-loop

@@ -1,5 +1,5 @@
 -- `bounds::reaches_none`: after q turns position i of track p reaches no unit in a track below q. Assumes nothing.
-use Prim.Native.Nat.{ℕ, _-_, _≤_}
+use Prim.Native.Nat.{ℕ, _-_, _≤_, _<_}
 use mathlib.Core.Path.{_≡_, refl, sym}
 use mathlib.Core.Bool.{Bool, true}
 use mathlib.Core.Logic.{⊎-elim, inl, inr}
@@ -56,7 +56,7 @@ reaches-requires c κs =
     let w = c .before .before .before in
     let l = w .before .before .before in
     let g = entry l in
-    let here = w .before .before .loop-test .taken in
+    let here : l .loop .q < g .args .k = omega arith in
     (g .pre .0, (g .pre .1 .0, record { in-track = here; from = rw (w .wide .ensures .0) (g .pre .1 .1 (l .loop .q) here); to = omega arith }))
 
 returns : tie.Need-returns Inv-loop μ-loop

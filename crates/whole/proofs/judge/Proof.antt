@@ -81,7 +81,7 @@ returns-2 : tie.Need-returns-2
 returns-2 c =
     let x = given (c .before .before .before .before .before .before .before .before .before .before) in
     let no = ⊎-elim (λ w. fits-not-long (x .head .n) (x .head .k) (x .tracks) (w .taken))
-        (λ w. fits-not (x .head .n) (x .head .k) (x .tracks) (w .0 .left) (rw (sym (w .1 .ensures)) (ltb-true (w .1 .result) _ (w .2 .taken)))) (c .before .if5 .came) in
+    (λ w. fits-not (x .head .n) (x .head .k) (x .tracks) (w .0 .left) (rw (sym (w .1 .ensures)) (ltb-true (w .1 .result) _ (w .2 .taken)))) (c .before .if5 .came) in
     c .faulty2 .ensures ∙ sym (judged-faulty (sizes x) (x .head .k) 2 (fault-2 x (in-both (c .before .before)) no) (omega arith))
 
 cast-lengths-true : tie.Need-cast-lengths-true

@@ -65,7 +65,7 @@ returns : tie.Need-returns
 returns c =
     let s = c .before .before .before .before .before in
     let no = ⊎-elim (λ w. reach-words (lengths s) (s .args .k) (s .args .words .now) (s .args .directory .now) _ (bits (c .before .before)) (w .taken))
-        (λ w. reach-directory (lengths s) (s .args .k) (s .args .words .now) (s .args .directory .now) _ (bits (c .before .before)) (ltb-true _ _ (w .1 .taken))) (c .before .if1 .came) in
+    (λ w. reach-directory (lengths s) (s .args .k) (s .args .words .now) (s .args .directory .now) _ (bits (c .before .before)) (ltb-true _ _ (w .1 .taken))) (c .before .if1 .came) in
     c .faulty .ensures ∙ sym (judged-faulty (lengths s) (s .args .k) 4 (areas-4 _ _ _ _ no) (omega arith))
 
 spare-clear-requires : tie.Need-spare-clear-requires

@@ -12,7 +12,6 @@ use Rattle.rules.specs.Bits.{rank}
 use Rattle.rules.specs.Index.{lensOf}
 use Rattle.rules.proofs.Ranges.{every-all, every-not}
 use Rattle.rules.proofs.Bits.{rank-le}
-use Rattle.rules.proofs.Layouts.{}
 use Rattle.whole.proofs.Vectors.{vectorTrue, length-most, room-most, Ended, ended, true-at, vector-test, offset-own, own-true}
 use Rattle.whole.proofs.row_true.Statement.{statement}
 use Rattle.whole.proofs.row_true.Tie as tie
@@ -84,7 +83,7 @@ returns c =
     let at = c .before .before .before .before .before .before .loop in
     let l = lensOf (s .args .lens .now) in
     let test = vector-test l (s .args .k) (s .args .words .now) (s .args .p) (at .q) _ (at .end) (at .ones)
-        (there (c .before .before .before)) (c .before .before .before .before .if1 .taken) (at .inv .1) (at .inv .2) in
+    (there (c .before .before .before)) (c .before .before .before .before .if1 .taken) (at .inv .1) (at .inv .2) in
     sym (every-not (vectorTrue l (s .args .k) (s .args .words .now) (s .args .p)) (s .args .k) (at .q) (omega arith)
     (test ∙ ne-eqb _ _ (λ e. c .if2 .taken (c .before .ones-through .ensures ∙ e))))
 
@@ -106,8 +105,7 @@ loop-again c =
     (λ w.
     let e = there record { before = record { before = c .before; if1 = w .0 }; vector-room = w .1 } in
     let test = vector-test l k ws p (at .q) _ (at .end) (at .ones) e (w .0 .taken) (at .inv .1) (at .inv .2) in
-    let h : at .end + w .1 .result - 1 + 1 ≡ c .if1 .end = omega (arith, w .5, e .some-bits) in
-    (
+    let h : at .end + w .1 .result - 1 + 1 ≡ c .if1 .end = omega (arith, w .5, e .some-bits) in (
       omega arith,
       w .5 ∙ e .at-end,
       w .6 ∙ sym (w .4 .left) ∙ w .3 .ensures ∙ ap (rank ws) h,
@@ -116,8 +114,7 @@ loop-again c =
     (λ w.
     let e : at .q ≡ p = w .0 .left in
     let stays : offset l k p (at .q + 1) ≡ offset l k p (at .q) =
-        ap (λ (q : ℕ). offset l k p (q + 1)) e ∙ offset-own l k ws p ∙ sym (ap (offset l k p) e) in
-    (
+    ap (λ (q : ℕ). offset l k p (q + 1)) e ∙ offset-own l k ws p ∙ sym (ap (offset l k p) e) in (
       omega arith,
       w .1 ∙ at .inv .1 ∙ sym stays,
       w .2 ∙ at .inv .2 ∙ sym (ap (rank ws) (w .1)),

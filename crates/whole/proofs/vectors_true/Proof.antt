@@ -111,7 +111,7 @@ loop-again c =
     let at = c .before .before .before .before .before .loop in
     let l = lensOf (a .lens .now) in
     let right : every (vectorTrue l (a .k) (a .words .now) (at .p)) (a .k) ≡ true =
-        sym (c .before .before .row-true .ensures) ∙ not-false _ (c .before .if1 .left) in
+    sym (c .before .before .row-true .ensures) ∙ not-false _ (c .before .if1 .left) in
     (omega arith, omega (arith, rank-row l (a .k) (a .words .now) (at .p) (omega arith) right), below-more _ (at .p) (at .inv .2) right)
 
 returns-2 : tie.Need-returns-2 Inv-loop μ-loop
