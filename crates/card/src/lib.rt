@@ -67,8 +67,7 @@ pub fn start() -> Card
 }
 
 // The card with another phase.
-fn in_phase(card: Card, phase: Phase) -> Card
-{
+fn in_phase(card: Card, phase: Phase) -> Card {
     let lens = card.lens;
     let row = card.row;
     Card {
@@ -85,46 +84,54 @@ fn in_phase(card: Card, phase: Phase) -> Card
 }
 
 // The refusal is printed, and nothing more is read.
-fn refuse(card: Card, refusal: Refusal, out: &mut [u8]) -> Step
-{
+fn refuse(card: Card, refusal: Refusal, out: &mut [u8]) -> Step {
     let wrote = frames::put_refused(out, refusal);
-    Step { card: in_phase(card, Phase::Stopped), wrote }
+    Step {
+        card: in_phase(card, Phase::Stopped),
+        wrote,
+    }
 }
 
 // A frame that is not allowed here.
-fn misplaced(card: Card, out: &mut [u8]) -> Step
-{
+fn misplaced(card: Card, out: &mut [u8]) -> Step {
     refuse(card, Refusal::FrameOrder(card.lines), out)
 }
 
 // ---- the frames before the questions
 
-fn head_frame(card: Card, n: u16, k: u16, out: &mut [u8]) -> Step
-{
+fn head_frame(card: Card, n: u16, k: u16, out: &mut [u8]) -> Step {
     if n == 0 || rules::MAX_UNITS < n || k == 0 || rules::MAX_TRACKS < k {
         return refuse(card, Refusal::OutOfLimits, out);
     }
     let mut next = in_phase(card, Phase::Tracks);
     next.n = n;
     next.k = k;
-    Step { card: next, wrote: 0 }
+    Step {
+        card: next,
+        wrote: 0,
+    }
 }
 
-fn track_frame(card: Card, unit: u16, track: u16, tracks: &mut [u16], out: &mut [u8]) -> Step
-{
+fn track_frame(card: Card, unit: u16, track: u16, tracks: &mut [u16], out: &mut [u8]) -> Step {
     let units = card.units;
     if unit as usize != units + 1 {
         return misplaced(card, out);
     }
     tracks[units] = track;
-    let phase = if unit == card.n { Phase::Needs } else { Phase::Tracks };
+    let phase = if unit == card.n {
+        Phase::Needs
+    } else {
+        Phase::Tracks
+    };
     let mut next = in_phase(card, phase);
     next.units = units + 1;
-    Step { card: next, wrote: 0 }
+    Step {
+        card: next,
+        wrote: 0,
+    }
 }
 
-fn need_frame(card: Card, u: u16, v: u16, needs: &mut [u16], out: &mut [u8]) -> Step
-{
+fn need_frame(card: Card, u: u16, v: u16, needs: &mut [u16], out: &mut [u8]) -> Step {
     let pairs = card.pairs;
     if pairs == rules::MAX_NEEDS {
         return refuse(card, Refusal::OutOfLimits, out);
@@ -133,17 +140,37 @@ fn need_frame(card: Card, u: u16, v: u16, needs: &mut [u16], out: &mut [u8]) -> 
     needs[2 * pairs + 1] = v;
     let mut next = card;
     next.pairs = pairs + 1;
-    Step { card: next, wrote: 0 }
+    Step {
+        card: next,
+        wrote: 0,
+    }
 }
 
-fn end_frame(card: Card, count: u16, filler: u16, tracks: &[u16], needs: &[u16], words: &mut [u64], directory: &mut [u16], work: &mut [u16], out: &mut [u8]) -> Step
-{
+fn end_frame(
+    card: Card,
+    count: u16,
+    filler: u16,
+    tracks: &[u16],
+    needs: &[u16],
+    words: &mut [u64],
+    directory: &mut [u16],
+    work: &mut [u16],
+    out: &mut [u8],
+) -> Step {
     let units = card.units;
     let numbers = 2 * card.pairs;
     if count as usize != card.pairs || filler != 0 {
         return misplaced(card, out);
     }
-    let built = build::build(card.n, card.k, &tracks[..units], &needs[..numbers], words, directory, work);
+    let built = build::build(
+        card.n,
+        card.k,
+        &tracks[..units],
+        &needs[..numbers],
+        words,
+        directory,
+        work,
+    );
     let verdict = built.verdict;
     if let Verdict::Refused(refusal) = verdict {
         return refuse(card, refusal, out);
@@ -161,8 +188,15 @@ fn end_frame(card: Card, count: u16, filler: u16, tracks: &[u16], needs: &[u16],
 
 // ---- the questions
 
-fn pair_answer(card: Card, direct: bool, u: u16, v: u16, tracks: &[u16], words: &[u64], directory: &[u16]) -> PairAnswer
-{
+fn pair_answer(
+    card: Card,
+    direct: bool,
+    u: u16,
+    v: u16,
+    tracks: &[u16],
+    words: &[u64],
+    directory: &[u16],
+) -> PairAnswer {
     let lens = card.lens;
     let row = card.row;
     let k = card.k as usize;
@@ -180,8 +214,15 @@ fn pair_answer(card: Card, direct: bool, u: u16, v: u16, tracks: &[u16], words: 
     if yes { PairAnswer::Yes } else { PairAnswer::No }
 }
 
-fn list_answer(card: Card, kind: u8, u: u16, tracks: &[u16], words: &[u64], directory: &[u16], list: &mut [u16]) -> NumberAnswer
-{
+fn list_answer(
+    card: Card,
+    kind: u8,
+    u: u16,
+    tracks: &[u16],
+    words: &[u64],
+    directory: &[u16],
+    list: &mut [u16],
+) -> NumberAnswer {
     let lens = card.lens;
     let row = card.row;
     let k = card.k as usize;
@@ -200,8 +241,15 @@ fn list_answer(card: Card, kind: u8, u: u16, tracks: &[u16], words: &[u64], dire
     known::steps_up(tracks, words, directory, &lens, &row, k, u, list, 0)
 }
 
-fn number_answer(card: Card, kind: u8, u: u16, q: u16, tracks: &[u16], words: &[u64], directory: &[u16]) -> NumberAnswer
-{
+fn number_answer(
+    card: Card,
+    kind: u8,
+    u: u16,
+    q: u16,
+    tracks: &[u16],
+    words: &[u64],
+    directory: &[u16],
+) -> NumberAnswer {
     let lens = card.lens;
     let row = card.row;
     let k = card.k as usize;
@@ -215,13 +263,21 @@ fn number_answer(card: Card, kind: u8, u: u16, q: u16, tracks: &[u16], words: &[
         return NumberAnswer::Refused(Refusal::BadArgument(2));
     }
     if kind == 0x17 {
-        return NumberAnswer::Number(known::unit_low(tracks, words, directory, &lens, &row, k, u, q));
+        return NumberAnswer::Number(known::unit_low(
+            tracks,
+            words,
+            directory,
+            &lens,
+            &row,
+            k,
+            u,
+            q,
+        ));
     }
     NumberAnswer::Number(known::unit_high(tracks, words, directory, &lens, &row, k, u, q))
 }
 
-fn put_answer(answer: NumberAnswer, list: &[u16], out: &mut [u8]) -> usize
-{
+fn put_answer(answer: NumberAnswer, list: &[u16], out: &mut [u8]) -> usize {
     match answer {
         NumberAnswer::Number(count) => {
             let end = count as usize;
@@ -231,27 +287,55 @@ fn put_answer(answer: NumberAnswer, list: &[u16], out: &mut [u8]) -> usize
     }
 }
 
-fn question_frame(card: Card, kind: u8, a: u16, b: u16, tracks: &[u16], words: &[u64], directory: &[u16], list: &mut [u16], out: &mut [u8]) -> Step
-{
+fn question_frame(
+    card: Card,
+    kind: u8,
+    a: u16,
+    b: u16,
+    tracks: &[u16],
+    words: &[u64],
+    directory: &[u16],
+    list: &mut [u16],
+    out: &mut [u8],
+) -> Step {
     if kind < 0x10 || 0x18 < kind || (0x12 <= kind && kind <= 0x16 && b != 0) {
         return misplaced(card, out);
     }
     if kind <= 0x11 {
         let answer = pair_answer(card, kind == 0x11, a, b, tracks, words, directory);
-        return Step { card, wrote: frames::put_pair(out, answer) };
+        return Step {
+            card,
+            wrote: frames::put_pair(out, answer),
+        };
     }
     if kind <= 0x15 {
         let answer = list_answer(card, kind, a, tracks, words, directory, list);
-        return Step { card, wrote: put_answer(answer, list, out) };
+        return Step {
+            card,
+            wrote: put_answer(answer, list, out),
+        };
     }
     let answer = number_answer(card, kind, a, b, tracks, words, directory);
-    Step { card, wrote: frames::put_number(out, answer) }
+    Step {
+        card,
+        wrote: frames::put_number(out, answer),
+    }
 }
 
 // ---- one line
 
 // Reads one line. The areas are large enough for any course; `out` for any answer.
-pub fn read(card: Card, line: &[u8], tracks: &mut [u16], needs: &mut [u16], words: &mut [u64], directory: &mut [u16], work: &mut [u16], list: &mut [u16], out: &mut [u8]) -> Step
+pub fn read(
+    card: Card,
+    line: &[u8],
+    tracks: &mut [u16],
+    needs: &mut [u16],
+    words: &mut [u64],
+    directory: &mut [u16],
+    work: &mut [u16],
+    list: &mut [u16],
+    out: &mut [u8],
+) -> Step
     requires { ⌜ Fit card (now tracks) (now needs) (now words) (now directory) (now work) (now list) ⌝ }
     requires { ⌜ 5125 ≤ length (now out) ⌝ }
     ensures { λ r. ⌜ next (readingOf (r .card) (now (tracks .exit)) (now (needs .exit))) (take (r .wrote) (now (out .exit))) ≡ readLine (readingOf card (now (tracks .entry)) (now (needs .entry))) (now (line .entry)) ⌝ }
@@ -269,11 +353,30 @@ pub fn read(card: Card, line: &[u8], tracks: &mut [u16], needs: &mut [u16], word
     if rules::MAX_LINES < next.lines {
         return misplaced(next, out);
     }
-    frame_in_phase(next, frame, tracks, needs, words, directory, work, list, out)
+    frame_in_phase(
+        next,
+        frame,
+        tracks,
+        needs,
+        words,
+        directory,
+        work,
+        list,
+        out,
+    )
 }
 
-fn frame_in_phase(card: Card, frame: Frame, tracks: &mut [u16], needs: &mut [u16], words: &mut [u64], directory: &mut [u16], work: &mut [u16], list: &mut [u16], out: &mut [u8]) -> Step
-{
+fn frame_in_phase(
+    card: Card,
+    frame: Frame,
+    tracks: &mut [u16],
+    needs: &mut [u16],
+    words: &mut [u64],
+    directory: &mut [u16],
+    work: &mut [u16],
+    list: &mut [u16],
+    out: &mut [u8],
+) -> Step {
     let phase = card.phase;
     let units = card.units;
     let count = card.count;
@@ -293,11 +396,31 @@ fn frame_in_phase(card: Card, frame: Frame, tracks: &mut [u16], needs: &mut [u16
                 return need_frame(card, frame.a, frame.b, needs, out);
             }
             if frame.kind == 0x04 {
-                return end_frame(card, frame.a, frame.b, tracks, needs, words, directory, work, out);
+                return end_frame(
+                    card,
+                    frame.a,
+                    frame.b,
+                    tracks,
+                    needs,
+                    words,
+                    directory,
+                    work,
+                    out,
+                );
             }
         }
         Phase::Asking => {
-            return question_frame(card, frame.kind, frame.a, frame.b, &tracks[..units], &words[..count], &directory[..count], list, out);
+            return question_frame(
+                card,
+                frame.kind,
+                frame.a,
+                frame.b,
+                &tracks[..units],
+                &words[..count],
+                &directory[..count],
+                list,
+                out,
+            );
         }
         Phase::Stopped => {
             return Step { card, wrote: 0 };
@@ -320,12 +443,26 @@ pub fn is_reading(card: Card) -> bool
     ensures { λ r. ⌜ r ≡ reads (card .phase) ⌝ }
 {
     let phase = card.phase;
-    if let Phase::Stopped = phase { false } else { true }
+    if let Phase::Stopped = phase {
+        false
+    } else {
+        true
+    }
 }
 
 // Reads line after line from the start of the bytes: a good line is eleven bytes, and anything else stops the card. It ends where the
 // card stops, fewer than eleven bytes are left, or the room for another answer is not there.
-pub fn run(card: Card, bytes: &[u8], tracks: &mut [u16], needs: &mut [u16], words: &mut [u64], directory: &mut [u16], work: &mut [u16], list: &mut [u16], out: &mut [u8]) -> Run
+pub fn run(
+    card: Card,
+    bytes: &[u8],
+    tracks: &mut [u16],
+    needs: &mut [u16],
+    words: &mut [u64],
+    directory: &mut [u16],
+    work: &mut [u16],
+    list: &mut [u16],
+    out: &mut [u8],
+) -> Run
     requires { ⌜ Fit card (now tracks) (now needs) (now words) (now directory) (now work) (now list) ⌝ }
     ensures { λ r. ⌜ next (readingOf (r .card) (now (tracks .exit)) (now (needs .exit))) (take (r .wrote) (now (out .exit))) ≡ fed (readingOf card (now (tracks .entry)) (now (needs .entry))) (now (bytes .entry)) (r .used / 11) ⌝ }
     ensures { λ r. ⌜ (r .used / 11 * 11 ≡ r .used) × (r .used ≤ length (now (bytes .entry))) × (r .wrote ≤ length (now (out .exit))) ⌝ }
@@ -336,12 +473,26 @@ pub fn run(card: Card, bytes: &[u8], tracks: &mut [u16], needs: &mut [u16], word
     let mut used: usize = 0;
     let mut wrote: usize = 0;
     while used + 11 <= bytes.len() && wrote + 5125 <= out.len() && is_reading(now) {
-        let step = read(now, &bytes[used..used + 11], tracks, needs, words, directory, work, list, &mut out[wrote..]);
+        let step = read(
+            now,
+            &bytes[used..used + 11],
+            tracks,
+            needs,
+            words,
+            directory,
+            work,
+            list,
+            &mut out[wrote..],
+        );
         now = step.card;
         used += 11;
         wrote += step.wrote;
     }
-    Run { card: now, used, wrote }
+    Run {
+        card: now,
+        used,
+        wrote,
+    }
 }
 
 // The end of the file, with the bytes of its last line that is no frame, if there are any.

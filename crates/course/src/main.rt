@@ -34,7 +34,17 @@ fn answer(
     let mut used: usize = 0;
     let mut written = true;
     while written && used + 11 <= bytes.len() && card::is_reading(now) {
-        let run = card::run(now, &bytes[used..], tracks, needs, words, directory, work, list, out);
+        let run = card::run(
+            now,
+            &bytes[used..],
+            tracks,
+            needs,
+            words,
+            directory,
+            work,
+            list,
+            out,
+        );
         let wrote = run.wrote;
         written = io::write_all(STDOUT_FILENO, &out[..wrote]);
         now = run.card;
@@ -73,20 +83,42 @@ fn turn(
     let card = feeding.card;
     let got = libc::read(STDIN_FILENO, &mut bytes[have..]);
     if got < 0 {
-        return Feeding { card, have, more: false };
+        return Feeding {
+            card,
+            have,
+            more: false,
+        };
     }
     if got == 0 {
         let wrote = card::finish(card, &bytes[..have], out);
         io::write_all(STDOUT_FILENO, &out[..wrote]);
-        return Feeding { card, have, more: false };
+        return Feeding {
+            card,
+            have,
+            more: false,
+        };
     }
     let end = have + io::count(got, &bytes[have..]);
-    let answered = answer(card, &bytes[..end], tracks, needs, words, directory, work, list, out);
+    let answered = answer(
+        card,
+        &bytes[..end],
+        tracks,
+        needs,
+        words,
+        directory,
+        work,
+        list,
+        out,
+    );
     let used = answered.used;
     let next = answered.card;
     let more = answered.written && card::is_reading(next);
     if !more {
-        return Feeding { card: next, have: 0, more: false };
+        return Feeding {
+            card: next,
+            have: 0,
+            more: false,
+        };
     }
     keep(bytes, used, end);
     Feeding {
@@ -114,7 +146,17 @@ fn serve(
     };
     let mut turns: u32 = 720_897;
     while 0 < turns && feeding.more {
-        feeding = turn(feeding, bytes, tracks, needs, words, directory, work, list, out);
+        feeding = turn(
+            feeding,
+            bytes,
+            tracks,
+            needs,
+            words,
+            directory,
+            work,
+            list,
+            out,
+        );
         turns -= 1;
     }
 }

@@ -20,7 +20,14 @@ pub struct Spans {
 }
 
 // Of the units at these lows, those that none of the others needs.
-fn steps_at(words: &[u64], directory: &[u16], lens: &[u16; 32], row: &[u32; 33], k: usize, at: &[u16; 32]) -> Spans
+fn steps_at(
+    words: &[u64],
+    directory: &[u16],
+    lens: &[u16; 32],
+    row: &[u32; 33],
+    k: usize,
+    at: &[u16; 32],
+) -> Spans
     requires { ⌜ Known (lensOf (now lens)) k (now words) (now directory) (now row) ⌝ }
     requires { ⌜ ((p : ℕ) → p < k → getD (now at) p 0 ≤ lensOf (now lens) p) ⌝ }
     ensures { λ r. ⌜ r ≡ record { from = oneFrom (stepAt (lensOf (now (lens .entry))) k (now (words .entry)) (now (at .entry))) (now (at .entry)); to = oneTo (stepAt (lensOf (now (lens .entry))) k (now (words .entry)) (now (at .entry))) (now (at .entry)) } ⌝ }
@@ -40,7 +47,14 @@ fn steps_at(words: &[u64], directory: &[u16], lens: &[u16; 32], row: &[u32; 33],
 }
 
 // Of the units at these highs, those that need none of the others.
-fn steps_up_at(words: &[u64], directory: &[u16], lens: &[u16; 32], row: &[u32; 33], k: usize, at: &[u16; 32]) -> Spans
+fn steps_up_at(
+    words: &[u64],
+    directory: &[u16],
+    lens: &[u16; 32],
+    row: &[u32; 33],
+    k: usize,
+    at: &[u16; 32],
+) -> Spans
     requires { ⌜ Known (lensOf (now lens)) k (now words) (now directory) (now row) ⌝ }
     requires { ⌜ ((p : ℕ) → p < k → 1 ≤ getD (now at) p 0) ⌝ }
     ensures { λ r. ⌜ r ≡ record { from = oneFrom (stepUpAt (lensOf (now (lens .entry))) k (now (words .entry)) (now (at .entry))) (now (at .entry)); to = oneTo (stepUpAt (lensOf (now (lens .entry))) k (now (words .entry)) (now (at .entry))) (now (at .entry)) } ⌝ }
@@ -62,7 +76,16 @@ fn steps_up_at(words: &[u64], directory: &[u16], lens: &[u16; 32], row: &[u32; 3
 // ---- the questions
 
 // Kind 10.
-pub fn needs(tracks: &[u16], words: &[u64], directory: &[u16], lens: &[u16; 32], row: &[u32; 33], k: usize, u: u16, v: u16) -> bool
+pub fn needs(
+    tracks: &[u16],
+    words: &[u64],
+    directory: &[u16],
+    lens: &[u16; 32],
+    row: &[u32; 33],
+    k: usize,
+    u: u16,
+    v: u16,
+) -> bool
     requires { ⌜ Sure (parts (now lens) k (now tracks) (now words) (now directory)) (now row) ⌝ }
     requires { ⌜ UnitOf (now tracks) u ⌝ }
     requires { ⌜ UnitOf (now tracks) v ⌝ }
@@ -74,7 +97,16 @@ pub fn needs(tracks: &[u16], words: &[u64], directory: &[u16], lens: &[u16; 32],
 }
 
 // Kind 11.
-pub fn is_step(tracks: &[u16], words: &[u64], directory: &[u16], lens: &[u16; 32], row: &[u32; 33], k: usize, u: u16, v: u16) -> bool
+pub fn is_step(
+    tracks: &[u16],
+    words: &[u64],
+    directory: &[u16],
+    lens: &[u16; 32],
+    row: &[u32; 33],
+    k: usize,
+    u: u16,
+    v: u16,
+) -> bool
     requires { ⌜ Sure (parts (now lens) k (now tracks) (now words) (now directory)) (now row) ⌝ }
     requires { ⌜ UnitOf (now tracks) u ⌝ }
     requires { ⌜ UnitOf (now tracks) v ⌝ }
@@ -90,7 +122,17 @@ pub fn is_step(tracks: &[u16], words: &[u64], directory: &[u16], lens: &[u16; 32
 }
 
 // Kind 12: everything up to low in each track.
-pub fn needed(tracks: &[u16], words: &[u64], directory: &[u16], lens: &[u16; 32], row: &[u32; 33], k: usize, u: u16, list: &mut [u16], place: usize) -> NumberAnswer
+pub fn needed(
+    tracks: &[u16],
+    words: &[u64],
+    directory: &[u16],
+    lens: &[u16; 32],
+    row: &[u32; 33],
+    k: usize,
+    u: u16,
+    list: &mut [u16],
+    place: usize,
+) -> NumberAnswer
     requires { ⌜ Sure (parts (now lens) k (now tracks) (now words) (now directory)) (now row) ⌝ }
     requires { ⌜ UnitOf (now tracks) u ⌝ }
     ensures { λ r. ⌜ listed r (now (list .exit)) ≡ listAnswer (listRoom (kind12 (parts (now (lens .entry)) k (now (tracks .entry)) (now (words .entry)) (now (directory .entry))) u) (now (list .entry)) place) (kind12 (parts (now (lens .entry)) k (now (tracks .entry)) (now (words .entry)) (now (directory .entry))) u) (now (list .entry)) place ⌝ }
@@ -102,7 +144,17 @@ pub fn needed(tracks: &[u16], words: &[u64], directory: &[u16], lens: &[u16; 32]
 }
 
 // Kind 13: everything from high on in each track.
-pub fn needing(tracks: &[u16], words: &[u64], directory: &[u16], lens: &[u16; 32], row: &[u32; 33], k: usize, u: u16, list: &mut [u16], place: usize) -> NumberAnswer
+pub fn needing(
+    tracks: &[u16],
+    words: &[u64],
+    directory: &[u16],
+    lens: &[u16; 32],
+    row: &[u32; 33],
+    k: usize,
+    u: u16,
+    list: &mut [u16],
+    place: usize,
+) -> NumberAnswer
     requires { ⌜ Sure (parts (now lens) k (now tracks) (now words) (now directory)) (now row) ⌝ }
     requires { ⌜ UnitOf (now tracks) u ⌝ }
     ensures { λ r. ⌜ listed r (now (list .exit)) ≡ listAnswer (listRoom (kind13 (parts (now (lens .entry)) k (now (tracks .entry)) (now (words .entry)) (now (directory .entry))) u) (now (list .entry)) place) (kind13 (parts (now (lens .entry)) k (now (tracks .entry)) (now (words .entry)) (now (directory .entry))) u) (now (list .entry)) place ⌝ }
@@ -113,7 +165,17 @@ pub fn needing(tracks: &[u16], words: &[u64], directory: &[u16], lens: &[u16; 32
 }
 
 // Kind 14: of the units at low those that none of the others needs.
-pub fn steps(tracks: &[u16], words: &[u64], directory: &[u16], lens: &[u16; 32], row: &[u32; 33], k: usize, u: u16, list: &mut [u16], place: usize) -> NumberAnswer
+pub fn steps(
+    tracks: &[u16],
+    words: &[u64],
+    directory: &[u16],
+    lens: &[u16; 32],
+    row: &[u32; 33],
+    k: usize,
+    u: u16,
+    list: &mut [u16],
+    place: usize,
+) -> NumberAnswer
     requires { ⌜ Sure (parts (now lens) k (now tracks) (now words) (now directory)) (now row) ⌝ }
     requires { ⌜ UnitOf (now tracks) u ⌝ }
     ensures { λ r. ⌜ listed r (now (list .exit)) ≡ listAnswer (listRoom (kind14 (parts (now (lens .entry)) k (now (tracks .entry)) (now (words .entry)) (now (directory .entry))) u) (now (list .entry)) place) (kind14 (parts (now (lens .entry)) k (now (tracks .entry)) (now (words .entry)) (now (directory .entry))) u) (now (list .entry)) place ⌝ }
@@ -127,7 +189,17 @@ pub fn steps(tracks: &[u16], words: &[u64], directory: &[u16], lens: &[u16; 32],
 }
 
 // Kind 15: of the units at high those that need none of the others.
-pub fn steps_up(tracks: &[u16], words: &[u64], directory: &[u16], lens: &[u16; 32], row: &[u32; 33], k: usize, u: u16, list: &mut [u16], place: usize) -> NumberAnswer
+pub fn steps_up(
+    tracks: &[u16],
+    words: &[u64],
+    directory: &[u16],
+    lens: &[u16; 32],
+    row: &[u32; 33],
+    k: usize,
+    u: u16,
+    list: &mut [u16],
+    place: usize,
+) -> NumberAnswer
     requires { ⌜ Sure (parts (now lens) k (now tracks) (now words) (now directory)) (now row) ⌝ }
     requires { ⌜ UnitOf (now tracks) u ⌝ }
     ensures { λ r. ⌜ listed r (now (list .exit)) ≡ listAnswer (listRoom (kind15 (parts (now (lens .entry)) k (now (tracks .entry)) (now (words .entry)) (now (directory .entry))) u) (now (list .entry)) place) (kind15 (parts (now (lens .entry)) k (now (tracks .entry)) (now (words .entry)) (now (directory .entry))) u) (now (list .entry)) place ⌝ }
@@ -141,7 +213,15 @@ pub fn steps_up(tracks: &[u16], words: &[u64], directory: &[u16], lens: &[u16; 3
 }
 
 // The highest-numbered direct step of u with a smaller number, 0 if none.
-fn highest_step(tracks: &[u16], words: &[u64], directory: &[u16], lens: &[u16; 32], row: &[u32; 33], k: usize, u: u16) -> u16
+fn highest_step(
+    tracks: &[u16],
+    words: &[u64],
+    directory: &[u16],
+    lens: &[u16; 32],
+    row: &[u32; 33],
+    k: usize,
+    u: u16,
+) -> u16
     requires { ⌜ Sure (parts (now lens) k (now tracks) (now words) (now directory)) (now row) ⌝ }
     requires { ⌜ UnitOf (now tracks) u ⌝ }
     ensures { λ r. ⌜ r ≡ highestStep (kind11 (parts (now (lens .entry)) k (now (tracks .entry)) (now (words .entry)) (now (directory .entry)))) u ⌝ }
@@ -155,7 +235,15 @@ fn highest_step(tracks: &[u16], words: &[u64], directory: &[u16], lens: &[u16; 3
 }
 
 // Kind 16: one stage for each highest step on the way down.
-pub fn stage(tracks: &[u16], words: &[u64], directory: &[u16], lens: &[u16; 32], row: &[u32; 33], k: usize, u: u16) -> u16
+pub fn stage(
+    tracks: &[u16],
+    words: &[u64],
+    directory: &[u16],
+    lens: &[u16; 32],
+    row: &[u32; 33],
+    k: usize,
+    u: u16,
+) -> u16
     requires { ⌜ Sure (parts (now lens) k (now tracks) (now words) (now directory)) (now row) ⌝ }
     requires { ⌜ UnitOf (now tracks) u ⌝ }
     ensures { λ r. ⌜ r ≡ kind16 (parts (now (lens .entry)) k (now (tracks .entry)) (now (words .entry)) (now (directory .entry))) u ⌝ }
@@ -170,7 +258,16 @@ pub fn stage(tracks: &[u16], words: &[u64], directory: &[u16], lens: &[u16; 32],
 }
 
 // Kind 17.
-pub fn unit_low(tracks: &[u16], words: &[u64], directory: &[u16], lens: &[u16; 32], row: &[u32; 33], k: usize, u: u16, q: u16) -> u16
+pub fn unit_low(
+    tracks: &[u16],
+    words: &[u64],
+    directory: &[u16],
+    lens: &[u16; 32],
+    row: &[u32; 33],
+    k: usize,
+    u: u16,
+    q: u16,
+) -> u16
     requires { ⌜ Sure (parts (now lens) k (now tracks) (now words) (now directory)) (now row) ⌝ }
     requires { ⌜ UnitOf (now tracks) u ⌝ }
     requires { ⌜ q < k ⌝ }
@@ -182,7 +279,16 @@ pub fn unit_low(tracks: &[u16], words: &[u64], directory: &[u16], lens: &[u16; 3
 }
 
 // Kind 18.
-pub fn unit_high(tracks: &[u16], words: &[u64], directory: &[u16], lens: &[u16; 32], row: &[u32; 33], k: usize, u: u16, q: u16) -> u16
+pub fn unit_high(
+    tracks: &[u16],
+    words: &[u64],
+    directory: &[u16],
+    lens: &[u16; 32],
+    row: &[u32; 33],
+    k: usize,
+    u: u16,
+    q: u16,
+) -> u16
     requires { ⌜ Sure (parts (now lens) k (now tracks) (now words) (now directory)) (now row) ⌝ }
     requires { ⌜ UnitOf (now tracks) u ⌝ }
     requires { ⌜ q < k ⌝ }

@@ -27,7 +27,14 @@ fn unit_verdict(fault: u32, n: u16, u: u16) -> Verdict
 }
 
 // Kind 10: u needs v.
-pub fn needs(head: Head, tracks: &[u16], words: &[u64], directory: &[u16], u: u16, v: u16) -> PairAnswer
+pub fn needs(
+    head: Head,
+    tracks: &[u16],
+    words: &[u64],
+    directory: &[u16],
+    u: u16,
+    v: u16,
+) -> PairAnswer
     ensures { λ r. ⌜ r ≡ pairOutcome (index head (now (tracks .entry)) (now (words .entry)) (now (directory .entry))) u v (kind10 (index head (now (tracks .entry)) (now (words .entry)) (now (directory .entry))) u v) ⌝ }
 {
     let judged = whole::judge(head, tracks, words, directory);
@@ -47,7 +54,14 @@ pub fn needs(head: Head, tracks: &[u16], words: &[u64], directory: &[u16], u: u1
 }
 
 // Kind 11: v is a direct step of u.
-pub fn is_step(head: Head, tracks: &[u16], words: &[u64], directory: &[u16], u: u16, v: u16) -> PairAnswer
+pub fn is_step(
+    head: Head,
+    tracks: &[u16],
+    words: &[u64],
+    directory: &[u16],
+    u: u16,
+    v: u16,
+) -> PairAnswer
     ensures { λ r. ⌜ r ≡ pairOutcome (index head (now (tracks .entry)) (now (words .entry)) (now (directory .entry))) u v (kind11 (index head (now (tracks .entry)) (now (words .entry)) (now (directory .entry))) u v) ⌝ }
 {
     let judged = whole::judge(head, tracks, words, directory);
@@ -67,7 +81,15 @@ pub fn is_step(head: Head, tracks: &[u16], words: &[u64], directory: &[u16], u: 
 }
 
 // Kind 12: the units that u needs, from the named place of the list on.
-pub fn needed(head: Head, tracks: &[u16], words: &[u64], directory: &[u16], u: u16, list: &mut [u16], place: usize) -> NumberAnswer
+pub fn needed(
+    head: Head,
+    tracks: &[u16],
+    words: &[u64],
+    directory: &[u16],
+    u: u16,
+    list: &mut [u16],
+    place: usize,
+) -> NumberAnswer
     ensures { λ r. ⌜ listed r (now (list .exit)) ≡ listOutcome (index head (now (tracks .entry)) (now (words .entry)) (now (directory .entry))) u (kind12 (index head (now (tracks .entry)) (now (words .entry)) (now (directory .entry))) u) (now (list .entry)) place ⌝ }
 {
     let judged = whole::judge(head, tracks, words, directory);
@@ -76,11 +98,29 @@ pub fn needed(head: Head, tracks: &[u16], words: &[u64], directory: &[u16], u: u
     if let Verdict::Refused(refusal) = unit_verdict(judged.fault, head.n, u) {
         return NumberAnswer::Refused(refusal);
     }
-    known::needed(tracks, words, directory, &lens, &row, head.k as usize, u, list, place)
+    known::needed(
+        tracks,
+        words,
+        directory,
+        &lens,
+        &row,
+        head.k as usize,
+        u,
+        list,
+        place,
+    )
 }
 
 // Kind 13: the units that need u.
-pub fn needing(head: Head, tracks: &[u16], words: &[u64], directory: &[u16], u: u16, list: &mut [u16], place: usize) -> NumberAnswer
+pub fn needing(
+    head: Head,
+    tracks: &[u16],
+    words: &[u64],
+    directory: &[u16],
+    u: u16,
+    list: &mut [u16],
+    place: usize,
+) -> NumberAnswer
     ensures { λ r. ⌜ listed r (now (list .exit)) ≡ listOutcome (index head (now (tracks .entry)) (now (words .entry)) (now (directory .entry))) u (kind13 (index head (now (tracks .entry)) (now (words .entry)) (now (directory .entry))) u) (now (list .entry)) place ⌝ }
 {
     let judged = whole::judge(head, tracks, words, directory);
@@ -89,11 +129,29 @@ pub fn needing(head: Head, tracks: &[u16], words: &[u64], directory: &[u16], u: 
     if let Verdict::Refused(refusal) = unit_verdict(judged.fault, head.n, u) {
         return NumberAnswer::Refused(refusal);
     }
-    known::needing(tracks, words, directory, &lens, &row, head.k as usize, u, list, place)
+    known::needing(
+        tracks,
+        words,
+        directory,
+        &lens,
+        &row,
+        head.k as usize,
+        u,
+        list,
+        place,
+    )
 }
 
 // Kind 14: the direct steps of u.
-pub fn steps(head: Head, tracks: &[u16], words: &[u64], directory: &[u16], u: u16, list: &mut [u16], place: usize) -> NumberAnswer
+pub fn steps(
+    head: Head,
+    tracks: &[u16],
+    words: &[u64],
+    directory: &[u16],
+    u: u16,
+    list: &mut [u16],
+    place: usize,
+) -> NumberAnswer
     ensures { λ r. ⌜ listed r (now (list .exit)) ≡ listOutcome (index head (now (tracks .entry)) (now (words .entry)) (now (directory .entry))) u (kind14 (index head (now (tracks .entry)) (now (words .entry)) (now (directory .entry))) u) (now (list .entry)) place ⌝ }
 {
     let judged = whole::judge(head, tracks, words, directory);
@@ -102,11 +160,29 @@ pub fn steps(head: Head, tracks: &[u16], words: &[u64], directory: &[u16], u: u1
     if let Verdict::Refused(refusal) = unit_verdict(judged.fault, head.n, u) {
         return NumberAnswer::Refused(refusal);
     }
-    known::steps(tracks, words, directory, &lens, &row, head.k as usize, u, list, place)
+    known::steps(
+        tracks,
+        words,
+        directory,
+        &lens,
+        &row,
+        head.k as usize,
+        u,
+        list,
+        place,
+    )
 }
 
 // Kind 15: the units that have u as a direct step.
-pub fn steps_up(head: Head, tracks: &[u16], words: &[u64], directory: &[u16], u: u16, list: &mut [u16], place: usize) -> NumberAnswer
+pub fn steps_up(
+    head: Head,
+    tracks: &[u16],
+    words: &[u64],
+    directory: &[u16],
+    u: u16,
+    list: &mut [u16],
+    place: usize,
+) -> NumberAnswer
     ensures { λ r. ⌜ listed r (now (list .exit)) ≡ listOutcome (index head (now (tracks .entry)) (now (words .entry)) (now (directory .entry))) u (kind15 (index head (now (tracks .entry)) (now (words .entry)) (now (directory .entry))) u) (now (list .entry)) place ⌝ }
 {
     let judged = whole::judge(head, tracks, words, directory);
@@ -115,7 +191,17 @@ pub fn steps_up(head: Head, tracks: &[u16], words: &[u64], directory: &[u16], u:
     if let Verdict::Refused(refusal) = unit_verdict(judged.fault, head.n, u) {
         return NumberAnswer::Refused(refusal);
     }
-    known::steps_up(tracks, words, directory, &lens, &row, head.k as usize, u, list, place)
+    known::steps_up(
+        tracks,
+        words,
+        directory,
+        &lens,
+        &row,
+        head.k as usize,
+        u,
+        list,
+        place,
+    )
 }
 
 // Kind 16: the stage of u.
@@ -132,7 +218,14 @@ pub fn stage(head: Head, tracks: &[u16], words: &[u64], directory: &[u16], u: u1
 }
 
 // Kind 17: the unit at low(u, q), 0 if none.
-pub fn unit_low(head: Head, tracks: &[u16], words: &[u64], directory: &[u16], u: u16, q: u16) -> NumberAnswer
+pub fn unit_low(
+    head: Head,
+    tracks: &[u16],
+    words: &[u64],
+    directory: &[u16],
+    u: u16,
+    q: u16,
+) -> NumberAnswer
     ensures { λ r. ⌜ r ≡ boundOutcome (index head (now (tracks .entry)) (now (words .entry)) (now (directory .entry))) u q (kind17 (index head (now (tracks .entry)) (now (words .entry)) (now (directory .entry))) u q) ⌝ }
 {
     let judged = whole::judge(head, tracks, words, directory);
@@ -144,11 +237,27 @@ pub fn unit_low(head: Head, tracks: &[u16], words: &[u64], directory: &[u16], u:
     if head.k <= q {
         return NumberAnswer::Refused(Refusal::BadArgument(2));
     }
-    NumberAnswer::Number(known::unit_low(tracks, words, directory, &lens, &row, head.k as usize, u, q))
+    NumberAnswer::Number(known::unit_low(
+        tracks,
+        words,
+        directory,
+        &lens,
+        &row,
+        head.k as usize,
+        u,
+        q,
+    ))
 }
 
 // Kind 18: the unit at high(u, q), 0 if none.
-pub fn unit_high(head: Head, tracks: &[u16], words: &[u64], directory: &[u16], u: u16, q: u16) -> NumberAnswer
+pub fn unit_high(
+    head: Head,
+    tracks: &[u16],
+    words: &[u64],
+    directory: &[u16],
+    u: u16,
+    q: u16,
+) -> NumberAnswer
     ensures { λ r. ⌜ r ≡ boundOutcome (index head (now (tracks .entry)) (now (words .entry)) (now (directory .entry))) u q (kind18 (index head (now (tracks .entry)) (now (words .entry)) (now (directory .entry))) u q) ⌝ }
 {
     let judged = whole::judge(head, tracks, words, directory);
@@ -160,5 +269,14 @@ pub fn unit_high(head: Head, tracks: &[u16], words: &[u64], directory: &[u16], u
     if head.k <= q {
         return NumberAnswer::Refused(Refusal::BadArgument(2));
     }
-    NumberAnswer::Number(known::unit_high(tracks, words, directory, &lens, &row, head.k as usize, u, q))
+    NumberAnswer::Number(known::unit_high(
+        tracks,
+        words,
+        directory,
+        &lens,
+        &row,
+        head.k as usize,
+        u,
+        q,
+    ))
 }

@@ -75,7 +75,7 @@ module _ (x : Index) (ws ds : List ℕ)
   unfolding kind10By
   kind10-agree u v u1 un v1 vn =
       rw (sym (low-agree (sizes x) (x .head .k) (x .words) ws words-agree (track (x .tracks) u) (track (x .tracks) v)
-        (unit-track x good u u1 un) (unit-track x good v v1 vn) (position (x .tracks) u)))
+      (unit-track x good u u1 un) (unit-track x good v v1 vn) (position (x .tracks) u)))
 
   pub kind11-agree : (u v : ℕ) → 1 ≤ u → u ≤ x .head .n → 1 ≤ v → v ≤ x .head .n → kind11 (index (x .head) (x .tracks) ws ds) u v ≡ kind11 x u v
   unfolding kind11By
@@ -84,8 +84,10 @@ module _ (x : Index) (ws ds : List ℕ)
       same : (p : ℕ) → p < x .head .k
           → ltb (lowIn (index (x .head) (x .tracks) ws ds) u p) (highIn (index (x .head) (x .tracks) ws ds) v p) ≡ ltb (lowIn x u p) (highIn x v p)
       same p l =
-          rw (sym (low-agree (sizes x) (x .head .k) (x .words) ws words-agree (track (x .tracks) u) p (unit-track x good u u1 un) l (position (x .tracks) u)),
-            sym (high-agree (sizes x) (x .head .k) (x .words) ws words-agree p (track (x .tracks) v) l (unit-track x good v v1 vn) (position (x .tracks) v)))
+          rw (
+            sym (low-agree (sizes x) (x .head .k) (x .words) ws words-agree (track (x .tracks) u) p (unit-track x good u u1 un) l (position (x .tracks) u)),
+            sym (high-agree (sizes x) (x .head .k) (x .words) ws words-agree p (track (x .tracks) v) l (unit-track x good v v1 vn) (position (x .tracks) v)),
+          )
 
       between : every (λ p. ltb (lowIn (index (x .head) (x .tracks) ws ds) u p) (highIn (index (x .head) (x .tracks) ws ds) v p)) (x .head .k)
           ≡ every (λ p. ltb (lowIn x u p) (highIn x v p)) (x .head .k)

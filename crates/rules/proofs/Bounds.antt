@@ -38,7 +38,7 @@ module _ (c : Listing) (a : Accepted c) where
       let l : v < u = needs-down (c .needs) (a .needs-pairs .goes-down) u v h in
       let t : (eqb (track (c .tracks) v) q && needs (c .needs) u v) ≡ true = both-and (eq-eqb _ _ e) h in
       let b : cond (eqb (track (c .tracks) v) q && needs (c .needs) u v) (position (c .tracks) v) 0 ≤ low c u q =
-          greatest-bound (λ v. cond (eqb (track (c .tracks) v) q && needs (c .needs) u v) (position (c .tracks) v) 0) u v l in
+      greatest-bound (λ v. cond (eqb (track (c .tracks) v) q && needs (c .needs) u v) (position (c .tracks) v) 0) u v l in
       let b′ : position (c .tracks) v ≤ low c u q = rw t at b in
       b′
 
@@ -88,7 +88,7 @@ module _ (c : Listing) (a : Accepted c) where
   pub low-under : (u : ℕ) → 1 ≤ u → low c u (track (c .tracks) u) < position (c .tracks) u
   low-under u l =
       let b : low c u (track (c .tracks) u) ≤ position (c .tracks) u - 1 = low-least u (track (c .tracks) u) (position (c .tracks) u - 1)
-          (λ v h e. omega (arith, position-up (c .tracks) v u e (needed-in u v h .1))) in
+      (λ v h e. omega (arith, position-up (c .tracks) v u e (needed-in u v h .1))) in
       omega (arith, position-pos (c .tracks) u l)
 
   -- ---- the row recurrence, sound tracks or not
@@ -174,7 +174,7 @@ module _ (c : Listing) (a : Accepted c) where
       same-unit : low c u (track (c .tracks) u) + 1 ≡ position (c .tracks) u → LowMet u (track (c .tracks) u) → needs (c .needs) u (unitBefore (c .tracks) u) ≡ true
       same-unit e m =
           let s : m .unit ≡ unitBefore (c .tracks) u = position-same (c .tracks) (m .unit) (unitBefore (c .tracks) u) (m .in-q ∙ sym (b .same-track))
-              (omega (arith, m .at-low, b .one-less)) in
+          (omega (arith, m .at-low, b .one-less)) in
           rw (sym s) (m .needed)
 
       from : eqb (low c u (track (c .tracks) u) + 1) (position (c .tracks) u) ≡ true → needs (c .needs) u (unitBefore (c .tracks) u) ≡ true
@@ -207,7 +207,7 @@ module _ (c : Listing) (a : Accepted c) where
       let e : u - 1 + 1 ≡ u = omega arith in
       let f : unsound c (u - 1) ≡ false = refuse-fine (unsound c) (c .n) (λ i. UnsoundTrack (i + 1)) h (u - 1) (omega arith) in
       let g : not (eqb (low c u (track (c .tracks) u) + 1) (position (c .tracks) u)) ≡ false =
-          rw e at (sym (own-sound (u - 1) (omega arith)) ∙ f) in
+      rw e at (sym (own-sound (u - 1) (omega arith)) ∙ f) in
       eqb-true _ _ (not-false _ g)
 
   pub own-is-sound : OwnLow → soundVerdict c ≡ Fine
@@ -294,7 +294,7 @@ module _ (c : Listing) (a : Accepted c) (sound : soundVerdict c ≡ Fine) where
       let t : getD (c .tracks) (v - 1) 0 ≡ track (c .tracks) v = sym (track-next (c .tracks) (v - 1)) ∙ ap (track (c .tracks)) s in
       let n : needs (c .needs) (v - 1 + 1) u ≡ true = rw s h in
       let b : high c u (track (c .tracks) v) ≤ high-term u (track (c .tracks) v) (v - 1) =
-          smallest-bound (size (c .tracks) (track (c .tracks) v) + 1) (high-term u (track (c .tracks) v)) (c .n) (v - 1) (omega arith) in
+      smallest-bound (size (c .tracks) (track (c .tracks) v) + 1) (high-term u (track (c .tracks) v)) (c .n) (v - 1) (omega arith) in
       let e : high-term u (track (c .tracks) v) (v - 1) ≡ position (c .tracks) v = rw (both-and (eq-eqb _ _ t) n, s) in
       omega arith
 
@@ -359,10 +359,10 @@ module _ (c : Listing) (a : Accepted c) (sound : soundVerdict c ≡ Fine) where
           let r = and-both (needs (c .needs) u v) (not (some (λ w. needs (c .needs) u w && needs (c .needs) w v) u)) s in
           let i = needed-in c a u (w .unit) (w .needed) in
           let n : needs (c .needs) (w .unit) v ≡ true =
-              needs-high v (w .unit) l (i .0) (omega arith)
-              ∙ le-leb (high c v (track (c .tracks) (w .unit))) (position (c .tracks) (w .unit)) (omega (arith, ap (high c v) (w .in-q), w .at-low)) in
+          needs-high v (w .unit) l (i .0) (omega arith)
+          ∙ le-leb (high c v (track (c .tracks) (w .unit))) (position (c .tracks) (w .unit)) (omega (arith, ap (high c v) (w .in-q), w .at-low)) in
           let y : some (λ w. needs (c .needs) u w && needs (c .needs) w v) u ≡ true =
-              some-yes (λ w. needs (c .needs) u w && needs (c .needs) w v) u (w .unit) (i .1) (both-and (w .needed) n) in
+          some-yes (λ w. needs (c .needs) u w && needs (c .needs) w v) u (w .unit) (i .1) (both-and (w .needed) n) in
           not-both y (not-true (some (λ w. needs (c .needs) u w && needs (c .needs) w v) u) (r .1))
 
       below : step (c .needs) u v ≡ true → (p : ℕ) → p < c .k → ltb (low c u p) (high c v p) ≡ true
@@ -389,7 +389,7 @@ module _ (c : Listing) (a : Accepted c) (sound : soundVerdict c ≡ Fine) where
           let r = and-both (kind10By (low c) (c .tracks) u v) (every (λ p. ltb (low c u p) (high c v p)) (c .k)) t in
           both-and (needs-low u v l m ∙ r .0)
           (rw (some-none (λ w. needs (c .needs) u w && needs (c .needs) w v) u (λ w h. not-yes _ (λ s.
-              let b = and-both (needs (c .needs) u w) (needs (c .needs) w v) s in none (r .1) w h (b .0) (b .1)))))
+          let b = and-both (needs (c .needs) u w) (needs (c .needs) w v) s in none (r .1) w h (b .0) (b .1)))))
 
 -- ---- reach in the unit's own track, and in another
 

@@ -97,14 +97,14 @@ module _ (b : Build) where
   whole-index =
       rw index-is
       (is-whole _ (whole-agree (builtIndex (b .course)) (over (b .words) (builtWords (b .course))) (over (b .directory) (builtDirectory (b .course)))
-        words-reach directory-reach words-agree directory-agrees (whole-built (b .course) accepted-course sound-course)))
+      words-reach directory-reach words-agree directory-agrees (whole-built (b .course) accepted-course sound-course)))
 
   pub kind10-index : (u v : ℕ) → 1 ≤ u → u ≤ b .course .n → 1 ≤ v → v ≤ b .course .n → kind10 (indexOf b) u v ≡ needs (b .course .needs) u v
   unfolding builtIndex builtHead
   kind10-index u v u1 un v1 vn =
       rw index-is
       (kind10-agree (builtIndex (b .course)) (over (b .words) (builtWords (b .course))) (over (b .directory) (builtDirectory (b .course)))
-        words-reach directory-reach words-agree directory-agrees (whole-built (b .course) accepted-course sound-course) u v u1 un v1 vn
+      words-reach directory-reach words-agree directory-agrees (whole-built (b .course) accepted-course sound-course) u v u1 un v1 vn
       ∙ kind10-built (b .course) accepted-course sound-course u v u1 un v1 vn)
 
   pub kind11-index : (u v : ℕ) → 1 ≤ u → u ≤ b .course .n → 1 ≤ v → v ≤ b .course .n → kind11 (indexOf b) u v ≡ step (b .course .needs) u v
@@ -112,5 +112,5 @@ module _ (b : Build) where
   kind11-index u v u1 un v1 vn =
       rw index-is
       (kind11-agree (builtIndex (b .course)) (over (b .words) (builtWords (b .course))) (over (b .directory) (builtDirectory (b .course)))
-        words-reach directory-reach words-agree directory-agrees (whole-built (b .course) accepted-course sound-course) u v u1 un v1 vn
+      words-reach directory-reach words-agree directory-agrees (whole-built (b .course) accepted-course sound-course) u v u1 un v1 vn
       ∙ kind11-built (b .course) accepted-course sound-course u v u1 un v1 vn)

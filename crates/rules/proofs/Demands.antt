@@ -90,10 +90,11 @@ units-exactly n t P to from = record {
         rw (r .stands) (to (r .number) (leb-true 1 (r .number) (s .0)) (omega (arith, r .below)) (s .1))
 
     place : (v : ℕ) → 1 ≤ v → v ≤ n → (leb 1 v && t v) ≡ true → (c : ℕ) × (c < length (unitsWhere t n)) × (getD (unitsWhere t n) c 0 ≡ v)
-    place v a z p =
-        (count (λ v. leb 1 v && t v) v,
-          rw (length-keep (λ v. leb 1 v && t v) (suc n)) (count-past (λ v. leb 1 v && t v) v (suc n) (omega arith) p),
-          keep-at (λ v. leb 1 v && t v) (suc n) v (omega arith) p)
+    place v a z p = (
+      count (λ v. leb 1 v && t v) v,
+      rw (length-keep (λ v. leb 1 v && t v) (suc n)) (count-past (λ v. leb 1 v && t v) v (suc n) (omega arith) p),
+      keep-at (λ v. leb 1 v && t v) (suc n) v (omega arith) p,
+    )
 
 module _ (b : Build) where
   down : Descending (b .course .needs)
@@ -179,11 +180,12 @@ module _ (a b : Build) (units : b .course .n ≡ a .course .n) where
   lists-same ten eleven = record {
     needs-agree = λ u v i j. pair-answered a u v i j _ ∙ ap yesOrNo (ten u v i j) ∙ sym (pair-answered b u v (here u i) (here v j) _);
     steps-agree = λ u v i j. pair-answered a u v i j _ ∙ ap yesOrNo (eleven u v i j) ∙ sym (pair-answered b u v (here u i) (here v j) _);
-    lists-agree = λ u i.
-        (same-units (λ v. kind10 (indexOf a) u v) (λ v. kind10 (indexOf b) u v) (λ v j. ten u v i j),
-          same-units (λ v. kind10 (indexOf a) v u) (λ v. kind10 (indexOf b) v u) (λ v j. ten v u j i),
-          same-units (λ v. kind11 (indexOf a) u v) (λ v. kind11 (indexOf b) u v) (λ v j. eleven u v i j),
-          same-units (λ v. kind11 (indexOf a) v u) (λ v. kind11 (indexOf b) v u) (λ v j. eleven v u j i));
+    lists-agree = λ u i. (
+      same-units (λ v. kind10 (indexOf a) u v) (λ v. kind10 (indexOf b) u v) (λ v j. ten u v i j),
+      same-units (λ v. kind10 (indexOf a) v u) (λ v. kind10 (indexOf b) v u) (λ v j. ten v u j i),
+      same-units (λ v. kind11 (indexOf a) u v) (λ v. kind11 (indexOf b) u v) (λ v j. eleven u v i j),
+      same-units (λ v. kind11 (indexOf a) v u) (λ v. kind11 (indexOf b) v u) (λ v j. eleven v u j i),
+    );
   }
     where
       same-units : (p q : ℕ → Bool) → ((v : ℕ) → UnitOf a v → p v ≡ q v) → unitsWhere p (indexOf a .head .n) ≡ unitsWhere q (indexOf b .head .n)
@@ -203,7 +205,7 @@ module _ (a b : Build) (units : b .course .n ≡ a .course .n) where
   agree-needs h = lists-same
       (λ u v i j. kind10-index a u v (i .from) (i .to) (j .from) (j .to) ∙ h u v ∙ sym (kind10-index b u v (i .from) (here u i .to) (j .from) (here v j .to)))
       (λ u v i j. kind11-index a u v (i .from) (i .to) (j .from) (j .to) ∙ steps-same (a .course .needs) (b .course .needs) h u v
-        ∙ sym (kind11-index b u v (i .from) (here u i .to) (j .from) (here v j .to)))
+      ∙ sym (kind11-index b u v (i .from) (here u i .to) (j .from) (here v j .to)))
 
   -- the units of a direct step
   step-units : (u v : ℕ) → DirectStep (a .course .needs) u v → UnitOf a u × UnitOf a v
@@ -226,9 +228,10 @@ agree-back a b units g = record {
 
 -- two agree on every pair and every list exactly when their direct steps are the same
 pub agree-steps : (a b : Build) → b .course .n ≡ a .course .n → Agree a b ↔ SameSteps a b
-agree-steps a b units =
-    ((λ g u v. (steps-cross a b units g u v, steps-cross b a (sym units) (agree-back a b units g) u v)),
-      (λ h. agree-needs a b units (same-needs a b units h)))
+agree-steps a b units = (
+  (λ g u v. (steps-cross a b units g u v, steps-cross b a (sym units) (agree-back a b units g) u v)),
+  (λ h. agree-needs a b units (same-needs a b units h)),
+)
 
 -- every accepted listing that answers alike contains them all
 pub agree-contains : (a b : Build) → b .course .n ≡ a .course .n → Agree a b → (u v : ℕ) → DirectStep (a .course .needs) u v → Listed (b .course .needs) u v
@@ -278,7 +281,12 @@ module _ (a : Build) where
   pub steps-rebuild : buildOutcome (stepsOnly (a .course)) (a .words) (a .directory) (a .work) ≡ outcomeOf a
   unfolding buildOutcome builtHead builtBits
   steps-rebuild =
-      rw (steps-alone, a .accepted, steps-filled, filled a,
+      rw (
+        steps-alone,
+        a .accepted,
+        steps-filled,
+        filled a,
         words-redrawn (a .course .n) (a .course .k) (a .course .tracks) (directSteps (a .course .needs) (a .course .n)) (a .course .needs) same,
         directory-redrawn (a .course .n) (a .course .k) (a .course .tracks) (directSteps (a .course .needs) (a .course .n)) (a .course .needs) same,
-        work-redrawn (a .course .n) (a .course .k) (a .course .tracks) (directSteps (a .course .needs) (a .course .n)) (a .course .needs) same)
+        work-redrawn (a .course .n) (a .course .k) (a .course .tracks) (directSteps (a .course .needs) (a .course .n)) (a .course .needs) same,
+      )

@@ -180,8 +180,8 @@ module _ (ts : List ℕ) where
           let wf = w .from in
           let s : suc (w .unit - 1) ≡ w .unit = omega arith in
           let e : unitBefore ts u ≡ w .unit =
-              greatest-is (λ i. cond (eqb (getD ts i 0) (track ts u)) (suc i) 0) (u - 1) (w .unit - 1) (w .unit) (omega arith)
-              (before-term u (w .unit - 1) (at-unit w) ∙ s) (λ i q. bound w i q (true-or-false _)) in
+          greatest-is (λ i. cond (eqb (getD ts i 0) (track ts u)) (suc i) 0) (u - 1) (w .unit - 1) (w .unit) (omega arith)
+          (before-term u (w .unit - 1) (at-unit w) ∙ s) (λ i q. bound w i q (true-or-false _)) in
           record { from = rw e wf; under = rw e lt; same-track = rw e (w .in-q); one-less = rw e (omega (arith, w .at-i)) }
         where
           at-unit : (w : UnitAt (track ts u) (position ts u - 1)) → getD ts (w .unit - 1) 0 ≡ track ts u

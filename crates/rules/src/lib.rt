@@ -4,8 +4,11 @@ ghost use Rattle.rules.specs.Limits.{limits};
 ghost use Rattle.rules.specs.Refusals.{numberOf, placeOf};
 
 pub const MAX_UNITS: u16 = 1024;
+
 pub const MAX_TRACKS: u16 = 32;
+
 pub const MAX_NEEDS: usize = 8192;
+
 pub const MAX_LINES: u32 = 65535;
 
 // The greatest course that the box takes.
