@@ -1,2 +1,3 @@
 -- What the proofs of the functions share.
 pub mod Asking
+pub mod StepSpans

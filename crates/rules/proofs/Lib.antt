@@ -17,4 +17,5 @@ pub mod Areas
 pub mod Builds
 pub mod Redrawn
 pub mod Demands
+pub mod Stages
 pub mod Bench
