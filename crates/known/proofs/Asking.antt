@@ -103,7 +103,7 @@ module _ {x : Index} {row : List ℕ} (s : Sure x row) {u v : ℕ} (h : UnitOf (
       (and-true _ ∙ sym (needs-by-high x (whole-of s) u v (h .from) (unit-to s h) (g .from) (unit-to s g)))
 
   -- no unit at a low of u needs v
-  lows-clear : every (λ p. not (lowBlocks x u v p)) (x .head .k)
+  pub lows-clear : every (λ p. not (lowBlocks x u v p)) (x .head .k)
       ≡ noneReaches (sizes x) (x .head .k) (x .words) (lowsOf x u) (track (x .tracks) v) (position (x .tracks) v)
   unfolding noneReaches
   lows-clear =

@@ -1,30 +1,30 @@
 -- Direct steps as spans of one position: the units at the lows of u that pass are those that u has as direct steps, and the units at its
 -- highs that pass are those that have u as one. Assumes nothing.
 use Prim.Native.Nat.{ℕ, _+_, _≤_, _<_}
-use mathlib.Core.Path.{_≡_, refl, sym, ap, _∙_}
+use mathlib.Core.Path.{_≡_, sym, ap, _∙_}
 use mathlib.Core.Bool.{Bool, true, false, cond, not, _&&_, and-true, and-false}
 use mathlib.Core.List.{List}
 use mathlib.Core.Logic.{_⊎_, inl, inr}
 use native.Mathlib.Omega.{arith}
 use native.Mathlib.Decide.{decLt, ℕ-discrete}
-use lib.ListN.{length, getD, set, replicate, length-set, length-replicate, getD-replicate}
+use lib.ListN.{getD, set, replicate, length-set, length-replicate, getD-replicate}
 use lib.Seq.{getD-set-same, getD-set-other}
 use lib.Dec.{leb, ltb, eqb}
 use borrow.Author.Tests.{lt-ltb, le-ltb, le-leb, lt-leb, leb-true, eq-eqb, ne-eqb, eqb-true}
 use Rattle.rules.specs.Ranges.{every, table}
 use Rattle.rules.specs.Listing.{track, size, position}
 use Rattle.rules.specs.Order.{highestStep}
-use Rattle.rules.specs.Index.{Index, sizes, lowIn, highIn}
+use Rattle.rules.specs.Index.{Index, sizes, lowIn}
 use Rattle.rules.specs.Questions.{kind11, unitsWhere, kind14, kind15}
 use Rattle.rules.proofs.Ranges.{true-or-false, not-both, every-same, length-table, getD-table, table-is, table-same}
 use Rattle.rules.proofs.Verdicts.{and-both, both-and, no-and, and-no, same-test}
-use Rattle.rules.proofs.Wholes.{Whole, whole-is, unit-track, unit-position, sizes-are, low-in-most, high-in-most, lowBlocks, highBlocks, step-at-low, step-at-high}
-use Rattle.bounds.specs.Known.{Known, Standing, noneReaches, reachesNone}
-use Rattle.bounds.proofs.Knowing.{known-whole}
-use Rattle.lists.specs.Spans.{inSpans, spanned, lastSpanned, Tracks, Held}
+use Rattle.rules.proofs.Wholes.{sizes-are, lowBlocks, highBlocks, step-at-low, step-at-high}
+use Rattle.bounds.specs.Known.{Standing, noneReaches, reachesNone}
+use Rattle.lists.specs.Spans.{inSpans, spanned, lastSpanned, Held}
 use Rattle.lists.proofs.Spans.{spanned-same, last-same}
 use Rattle.known.specs.declared.Spans.{Spans}
 use Rattle.known.specs.Asked.{Sure, UnitOf, oneFrom, oneTo, stepAt, stepUpAt}
+use Rattle.known.proofs.Asking.{lowsOf, highsOf, whole-of, low-entry, high-entry, unit-to, standing-of, lows-within, highs-from, lows-clear}
 
 -- ---- arrays filled at the tracks that pass
 
@@ -41,9 +41,9 @@ module _ (passes : ℕ → Bool) (at : List ℕ) (d : ℕ) where
   filled-none =
       table-is _ (replicate 32 d) 32 (length-replicate 32 d) (λ j l. getD-replicate 32 j d 0 l ∙ rw (le-ltb j 0 (omega arith)))
 
-  -- a track that does not pass changes nothing
-  at-no : (i j : ℕ) → (j ≡ i → passes i ≡ false) → below passes i j ≡ below passes (i + 1) j
-  at-no i j f = go (decLt j i) (decLt i j)
+  -- one track more, where it is not j or does not pass, tells the same of j
+  below-next : (i j : ℕ) → (j ≡ i → passes i ≡ false) → below passes i j ≡ below passes (i + 1) j
+  below-next i j f = go (decLt j i) (decLt i j)
     where
       go : Dec (j < i) → Dec (i < j) → below passes i j ≡ below passes (i + 1) j
       go (yes l) h = rw (lt-ltb j i l, lt-ltb j (i + 1) (omega arith))
@@ -53,7 +53,7 @@ module _ (passes : ℕ → Bool) (at : List ℕ) (d : ℕ) where
           rw (e, f e, le-ltb i i (omega arith)) (sym (and-false (ltb i (i + 1))))
 
   pub filled-no : (i : ℕ) → passes i ≡ false → filled i ≡ filled (i + 1)
-  filled-no i f = table-same _ _ 32 (λ j l. rw (at-no i j (λ e. f)))
+  filled-no i f = table-same _ _ 32 (λ j l. rw (below-next i j (λ e. f)))
 
   pub filled-yes : (i : ℕ) → i < 32 → passes i ≡ true → set (filled i) i (getD at i 0) ≡ filled (i + 1)
   filled-yes i l t =
@@ -64,7 +64,7 @@ module _ (passes : ℕ → Bool) (at : List ℕ) (d : ℕ) where
           rw (e, lt-ltb i (i + 1) (omega arith), t) (getD-set-same (filled i) i (getD at i 0) 0 (rw length-table l))
       at-each j h (no n) =
           getD-set-other (filled i) i j (getD at i 0) 0 n ∙ getD-table _ 32 j h
-          ∙ ap (λ b. cond b (getD at j 0) d) (at-no i j (λ e. absurd (n e)))
+          ∙ ap (λ b. cond b (getD at j 0) d) (below-next i j (λ e. absurd (n e)))
 
   -- all that pass are below m
   filled-all : (m : ℕ) → ((q : ℕ) → m ≤ q → passes q ≡ false) → filled m ≡ table (λ q. cond (passes q) (getD at q 0) d) 32
@@ -151,154 +151,109 @@ same-where i a b c h = go (ℕ-discrete i a)
     go (yes e) = ap (λ d. eqb i a && d) (h e)
     go (no n) = rw (ne-eqb i a n)
 
--- ---- the units at the lows and at the highs of u
+-- ---- the direct steps of u, and the units that have u as one
 
--- low(u, q) of each track, 0 beyond the last, and high(u, q)
-abbrev pub lowsOf : Index → ℕ → List ℕ
-lowsOf x u = table (λ q. cond (ltb q (x .head .k)) (lowIn x u q) 0) 32
+-- the unit at the low of u in track q is a direct step of u
+abbrev pub stepOf : Index → ℕ → ℕ → Bool
+stepOf x u = stepAt (sizes x) (x .head .k) (x .words) (lowsOf x u)
 
-abbrev pub highsOf : Index → ℕ → List ℕ
-highsOf x u = table (λ q. cond (ltb q (x .head .k)) (highIn x u q) 0) 32
-
--- the tracks whose unit there passes
-abbrev pub lowPasses : Index → ℕ → ℕ → Bool
-lowPasses x u = stepAt (sizes x) (x .head .k) (x .words) (lowsOf x u)
-
-abbrev pub highPasses : Index → ℕ → ℕ → Bool
-highPasses x u = stepUpAt (sizes x) (x .head .k) (x .words) (highsOf x u)
+-- the unit at the high of u in track q has u as a direct step
+abbrev pub stepUpOf : Index → ℕ → ℕ → Bool
+stepUpOf x u = stepUpAt (sizes x) (x .head .k) (x .words) (highsOf x u)
 
 -- the spans of those units
-abbrev pub lowFrom : Index → ℕ → List ℕ
-lowFrom x u = oneFrom (lowPasses x u) (lowsOf x u)
+abbrev pub stepsFrom : Index → ℕ → List ℕ
+stepsFrom x u = oneFrom (stepOf x u) (lowsOf x u)
 
-abbrev pub lowTo : Index → ℕ → List ℕ
-lowTo x u = oneTo (lowPasses x u) (lowsOf x u)
+abbrev pub stepsTo : Index → ℕ → List ℕ
+stepsTo x u = oneTo (stepOf x u) (lowsOf x u)
 
-abbrev pub highFrom : Index → ℕ → List ℕ
-highFrom x u = oneFrom (highPasses x u) (highsOf x u)
+abbrev pub stepsUpFrom : Index → ℕ → List ℕ
+stepsUpFrom x u = oneFrom (stepUpOf x u) (highsOf x u)
 
-abbrev pub highTo : Index → ℕ → List ℕ
-highTo x u = oneTo (highPasses x u) (highsOf x u)
+abbrev pub stepsUpTo : Index → ℕ → List ℕ
+stepsUpTo x u = oneTo (stepUpOf x u) (highsOf x u)
 
-module _ {x : Index} {row : List ℕ} (s : Sure x row) where
-  good : Whole x
-  good = whole-is x (s .is-whole)
+module _ {x : Index} {row : List ℕ} (s : Sure x row) {u : ℕ} (h : UnitOf (x .tracks) u) where
+  pub steps-held : Held (stepsFrom x u) (stepsTo x u) (x .tracks) (x .head .k)
+  steps-held = held-one (stepOf x u) (lowsOf x u) (x .tracks) (x .head .k) (whole-of s .k-in .1) each
+    where
+      stands : (q : ℕ) → stepOf x u q ≡ true → Dec (0 < getD (lowsOf x u) q 0) → 1 ≤ getD (lowsOf x u) q 0
+      stands q t (yes l) = l
+      stands q t (no n) = absurd (not-both t (step-none (sizes x) (x .head .k) (x .words) (lowsOf x u) q (omega arith)))
 
-  pub sure-known : Known (sizes x) (x .head .k) (x .words) (x .directory) row
-  sure-known = known-whole x row (s .is-whole) (s .starts)
+      each : (q : ℕ) → q < x .head .k → stepOf x u q ≡ true → (1 ≤ getD (lowsOf x u) q 0) × (getD (lowsOf x u) q 0 ≤ size (x .tracks) q)
+      each q l t = (stands q t (decLt 0 (getD (lowsOf x u) q 0)), omega (arith, lows-within s h q l, sizes-are x (whole-of s) q l))
 
-  pub sure-tracks : Tracks (x .tracks) (x .head .k)
-  sure-tracks = record {
-    few-units = omega (arith, good .tracks-long, good .n-in);
-    few-tracks = good .k-in .1;
-    each = λ i l. good .tracks-below i (omega (arith, good .tracks-long));
-  }
+  pub steps-up-held : Held (stepsUpFrom x u) (stepsUpTo x u) (x .tracks) (x .head .k)
+  steps-up-held = held-one (stepUpOf x u) (highsOf x u) (x .tracks) (x .head .k) (whole-of s .k-in .1) each
+    where
+      stands : (q : ℕ) → stepUpOf x u q ≡ true → Dec (sizes x q < getD (highsOf x u) q 0) → getD (highsOf x u) q 0 ≤ sizes x q
+      stands q t (yes l) = absurd (not-both t (step-up-none (sizes x) (x .head .k) (x .words) (highsOf x u) q l))
+      stands q t (no n) = omega arith
 
-  -- the entry of a table of one number for each track
-  entry-at : (f : ℕ → ℕ) (q : ℕ) → q < x .head .k → getD (table (λ q. cond (ltb q (x .head .k)) (f q) 0) 32) q 0 ≡ f q
-  entry-at f q l =
-      getD-table (λ q. cond (ltb q (x .head .k)) (f q) 0) 32 q (omega (arith, good .k-in)) ∙ rw (lt-ltb q (x .head .k) l)
+      each : (q : ℕ) → q < x .head .k → stepUpOf x u q ≡ true → (1 ≤ getD (highsOf x u) q 0) × (getD (highsOf x u) q 0 ≤ size (x .tracks) q)
+      each q l t = (highs-from s h q l, omega (arith, stands q t (decLt (sizes x q) (getD (highsOf x u) q 0)), sizes-are x (whole-of s) q l))
 
-  module _ {u : ℕ} (unit : UnitOf (x .tracks) u) where
-    unit-in : u ≤ x .head .n
-    unit-in = omega (arith, unit .to, good .tracks-long)
+module _ {x : Index} {row : List ℕ} (s : Sure x row) {u v : ℕ} (h : UnitOf (x .tracks) u) (g : UnitOf (x .tracks) v) where
+  -- v needs no unit at a high of u
+  highs-clear : every (λ p. not (highBlocks x u v p)) (x .head .k)
+      ≡ reachesNone (sizes x) (x .head .k) (x .words) (track (x .tracks) v) (position (x .tracks) v) (highsOf x u)
+  unfolding reachesNone
+  highs-clear =
+      every-same (λ p. not (highBlocks x u v p)) _ (x .head .k)
+      (λ p l. ap (λ i. not (leb i (sizes x p) && leb i (lowIn x v p))) (sym (high-entry s u p l)))
 
-    pub sure-standing : Standing (sizes x) (x .head .k) (track (x .tracks) u) (position (x .tracks) u)
-    sure-standing =
-        let place = unit-position x good u (unit .from) unit-in in
-        record { in-track = unit-track x good u (unit .from) unit-in; from = place .0; to = place .1 }
+  -- v is in the spans at the lows exactly when it is a direct step of u
+  step-spans : inSpans (stepsFrom x u) (stepsTo x u) (x .tracks) v ≡ kind11 x u v
+  step-spans =
+      in-one (stepOf x u) (lowsOf x u) (x .tracks) v (omega (arith, i .in-track, whole-of s .k-in)) (i .from)
+      ∙ same-where (position (x .tracks) v) (getD (lowsOf x u) (track (x .tracks) v) 0) _ _ passes
+      ∙ rw (low-entry s u (track (x .tracks) v) (i .in-track))
+      (sym (step-at-low x (whole-of s) u v (h .from) (unit-to s h) (g .from) (unit-to s g)))
+    where
+      i : Standing (sizes x) (x .head .k) (track (x .tracks) v) (position (x .tracks) v)
+      i = standing-of s g
 
-    lows-at : (q : ℕ) → q < x .head .k → getD (lowsOf x u) q 0 ≡ lowIn x u q
-    lows-at = entry-at (lowIn x u)
+      passes : position (x .tracks) v ≡ getD (lowsOf x u) (track (x .tracks) v) 0
+          → stepOf x u (track (x .tracks) v) ≡ every (λ p. not (lowBlocks x u v p)) (x .head .k)
+      passes e =
+          step-there (sizes x) (x .head .k) (x .words) (lowsOf x u) (track (x .tracks) v) (i .in-track) (omega (arith, i .from))
+          ∙ rw (sym e) (sym (lows-clear s h g))
 
-    highs-at : (q : ℕ) → q < x .head .k → getD (highsOf x u) q 0 ≡ highIn x u q
-    highs-at = entry-at (highIn x u)
+  -- and in those at the highs exactly when it has u as a direct step
+  step-up-spans : inSpans (stepsUpFrom x u) (stepsUpTo x u) (x .tracks) v ≡ kind11 x v u
+  step-up-spans =
+      in-one (stepUpOf x u) (highsOf x u) (x .tracks) v (omega (arith, i .in-track, whole-of s .k-in)) (i .from)
+      ∙ same-where (position (x .tracks) v) (getD (highsOf x u) (track (x .tracks) v) 0) _ _ passes
+      ∙ rw (high-entry s u (track (x .tracks) v) (i .in-track))
+      (sym (step-at-high x (whole-of s) u v (h .from) (unit-to s h) (g .from) (unit-to s g)))
+    where
+      i : Standing (sizes x) (x .head .k) (track (x .tracks) v) (position (x .tracks) v)
+      i = standing-of s g
 
-    pub lows-most : (q : ℕ) → q < x .head .k → getD (lowsOf x u) q 0 ≤ sizes x q
-    lows-most q l = rw (lows-at q l) (low-in-most x good u (unit .from) unit-in q l)
+      passes : position (x .tracks) v ≡ getD (highsOf x u) (track (x .tracks) v) 0
+          → stepUpOf x u (track (x .tracks) v) ≡ every (λ p. not (highBlocks x u v p)) (x .head .k)
+      passes e =
+          step-up-there (sizes x) (x .head .k) (x .words) (highsOf x u) (track (x .tracks) v) (i .in-track) (omega (arith, i .to))
+          ∙ rw (sym e) (sym highs-clear)
 
-    pub highs-least : (q : ℕ) → q < x .head .k → 1 ≤ getD (highsOf x u) q 0
-    highs-least q l = rw (highs-at q l) (high-in-most x good u (unit .from) unit-in q l .0)
+-- ---- the lists
 
-    pub low-held : Held (lowFrom x u) (lowTo x u) (x .tracks) (x .head .k)
-    low-held = held-one (lowPasses x u) (lowsOf x u) (x .tracks) (x .head .k) (good .k-in .1) each
-      where
-        stands : (q : ℕ) → lowPasses x u q ≡ true → Dec (0 < getD (lowsOf x u) q 0) → 1 ≤ getD (lowsOf x u) q 0
-        stands q t (yes h) = h
-        stands q t (no n) = absurd (not-both t (step-none (sizes x) (x .head .k) (x .words) (lowsOf x u) q (omega arith)))
+module _ {x : Index} {row : List ℕ} (s : Sure x row) {u : ℕ} (h : UnitOf (x .tracks) u) where
+  -- kind 14
+  pub steps-spanned : spanned (stepsFrom x u) (stepsTo x u) (x .tracks) ≡ kind14 x u
+  steps-spanned =
+      spanned-same (stepsFrom x u) (stepsTo x u) (x .tracks) (kind11 x u) (λ v from to. step-spans s h (record { from = from; to = to }))
+      ∙ ap (unitsWhere (kind11 x u)) (whole-of s .tracks-long)
 
-        each : (q : ℕ) → q < x .head .k → lowPasses x u q ≡ true → (1 ≤ getD (lowsOf x u) q 0) × (getD (lowsOf x u) q 0 ≤ size (x .tracks) q)
-        each q l t = (stands q t (decLt 0 (getD (lowsOf x u) q 0)), omega (arith, lows-most q l, sizes-are x good q l))
+  -- kind 15
+  pub steps-up-spanned : spanned (stepsUpFrom x u) (stepsUpTo x u) (x .tracks) ≡ kind15 x u
+  steps-up-spanned =
+      spanned-same (stepsUpFrom x u) (stepsUpTo x u) (x .tracks) (λ v. kind11 x v u) (λ v from to. step-up-spans s h (record { from = from; to = to }))
+      ∙ ap (unitsWhere (λ v. kind11 x v u)) (whole-of s .tracks-long)
 
-    pub high-held : Held (highFrom x u) (highTo x u) (x .tracks) (x .head .k)
-    high-held = held-one (highPasses x u) (highsOf x u) (x .tracks) (x .head .k) (good .k-in .1) each
-      where
-        stands : (q : ℕ) → highPasses x u q ≡ true → Dec (sizes x q < getD (highsOf x u) q 0) → getD (highsOf x u) q 0 ≤ sizes x q
-        stands q t (yes h) = absurd (not-both t (step-up-none (sizes x) (x .head .k) (x .words) (highsOf x u) q h))
-        stands q t (no n) = omega arith
-
-        each : (q : ℕ) → q < x .head .k → highPasses x u q ≡ true → (1 ≤ getD (highsOf x u) q 0) × (getD (highsOf x u) q 0 ≤ size (x .tracks) q)
-        each q l t = (highs-least q l, omega (arith, stands q t (decLt (sizes x q) (getD (highsOf x u) q 0)), sizes-are x good q l))
-
-  module _ {u : ℕ} (unit : UnitOf (x .tracks) u) {v : ℕ} (other : UnitOf (x .tracks) v) where
-    -- none at the lows of u needs v
-    pub none-low : noneReaches (sizes x) (x .head .k) (x .words) (lowsOf x u) (track (x .tracks) v) (position (x .tracks) v)
-        ≡ every (λ p. not (lowBlocks x u v p)) (x .head .k)
-    unfolding noneReaches
-    none-low = every-same _ _ (x .head .k) (λ p l. rw (lows-at unit p l))
-
-    -- v needs none at the highs of u
-    pub none-high : reachesNone (sizes x) (x .head .k) (x .words) (track (x .tracks) v) (position (x .tracks) v) (highsOf x u)
-        ≡ every (λ p. not (highBlocks x u v p)) (x .head .k)
-    unfolding reachesNone
-    none-high = every-same _ _ (x .head .k) (λ p l. rw (highs-at unit p l))
-
-    -- v is in the spans at the lows exactly when it is a direct step of u
-    low-spans : inSpans (lowFrom x u) (lowTo x u) (x .tracks) v ≡ kind11 x u v
-    low-spans =
-        in-one (lowPasses x u) (lowsOf x u) (x .tracks) v (omega (arith, at-v .in-track, good .k-in)) (at-v .from)
-        ∙ same-where (position (x .tracks) v) (getD (lowsOf x u) (track (x .tracks) v) 0) _ _ passes
-        ∙ rw (lows-at unit (track (x .tracks) v) (at-v .in-track))
-        (sym (step-at-low x good u v (unit .from) (unit-in unit) (other .from) (unit-in other)))
-      where
-        at-v : Standing (sizes x) (x .head .k) (track (x .tracks) v) (position (x .tracks) v)
-        at-v = sure-standing other
-
-        passes : position (x .tracks) v ≡ getD (lowsOf x u) (track (x .tracks) v) 0
-            → lowPasses x u (track (x .tracks) v) ≡ every (λ p. not (lowBlocks x u v p)) (x .head .k)
-        passes e =
-            step-there (sizes x) (x .head .k) (x .words) (lowsOf x u) (track (x .tracks) v) (at-v .in-track) (omega (arith, at-v .from))
-            ∙ rw (sym e) none-low
-
-    -- and in those at the highs exactly when it has u as a direct step
-    high-spans : inSpans (highFrom x u) (highTo x u) (x .tracks) v ≡ kind11 x v u
-    high-spans =
-        in-one (highPasses x u) (highsOf x u) (x .tracks) v (omega (arith, at-v .in-track, good .k-in)) (at-v .from)
-        ∙ same-where (position (x .tracks) v) (getD (highsOf x u) (track (x .tracks) v) 0) _ _ passes
-        ∙ rw (highs-at unit (track (x .tracks) v) (at-v .in-track))
-        (sym (step-at-high x good u v (unit .from) (unit-in unit) (other .from) (unit-in other)))
-      where
-        at-v : Standing (sizes x) (x .head .k) (track (x .tracks) v) (position (x .tracks) v)
-        at-v = sure-standing other
-
-        passes : position (x .tracks) v ≡ getD (highsOf x u) (track (x .tracks) v) 0
-            → highPasses x u (track (x .tracks) v) ≡ every (λ p. not (highBlocks x u v p)) (x .head .k)
-        passes e =
-            step-up-there (sizes x) (x .head .k) (x .words) (highsOf x u) (track (x .tracks) v) (at-v .in-track) (omega (arith, at-v .to))
-            ∙ rw (sym e) none-high
-
-  module _ {u : ℕ} (unit : UnitOf (x .tracks) u) where
-    pub low-units : spanned (lowFrom x u) (lowTo x u) (x .tracks) ≡ kind14 x u
-    low-units =
-        spanned-same (lowFrom x u) (lowTo x u) (x .tracks) (kind11 x u) (λ v l h. low-spans unit (record { from = l; to = h }))
-        ∙ ap (unitsWhere (kind11 x u)) (good .tracks-long)
-
-    pub high-units : spanned (highFrom x u) (highTo x u) (x .tracks) ≡ kind15 x u
-    high-units =
-        spanned-same (highFrom x u) (highTo x u) (x .tracks) (λ v. kind11 x v u) (λ v l h. high-spans unit (record { from = l; to = h }))
-        ∙ ap (unitsWhere (λ v. kind11 x v u)) (good .tracks-long)
-
-    pub low-last : lastSpanned (lowFrom x u) (lowTo x u) (x .tracks) u ≡ highestStep (kind11 x) u
-    low-last =
-        last-same (lowFrom x u) (lowTo x u) (x .tracks) (kind11 x) u
-        (λ v l h. low-spans unit (record { from = l; to = omega (arith, unit .to) }))
+  pub steps-last : lastSpanned (stepsFrom x u) (stepsTo x u) (x .tracks) u ≡ highestStep (kind11 x) u
+  steps-last =
+      last-same (stepsFrom x u) (stepsTo x u) (x .tracks) (kind11 x) u
+      (λ v from below. step-spans s h (record { from = from; to = omega (arith, h .to) }))

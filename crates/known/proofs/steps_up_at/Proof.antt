@@ -95,21 +95,21 @@ loop-again c =
     let q = l .loop .q in
     ⊎-elim
     (λ w.
-        let t = passed (record { before = record { before = record { before = b; if1 = w .0 }; reaches-none = w .1 }; if2 = w .2 }) in (
-          omega arith,
-          w .3 ∙ rw (l .loop .inv .1) (filled-yes (passes g) at 1 q (omega arith) t),
-          w .4 ∙ rw (l .loop .inv .2) (filled-yes (passes g) at 0 q (omega arith) t),
-        ))
+    let t = passed (record { before = record { before = record { before = b; if1 = w .0 }; reaches-none = w .1 }; if2 = w .2 }) in (
+      omega arith,
+      w .3 ∙ rw (l .loop .inv .1) (filled-yes (passes g) at 1 q (omega arith) t),
+      w .4 ∙ rw (l .loop .inv .2) (filled-yes (passes g) at 0 q (omega arith) t),
+    ))
     (λ w.
-        let f : passes g q ≡ false =
-        ⊎-elim
-        (λ a. failed (record { before = record { before = record { before = b; if1 = a .0 }; reaches-none = a .1 }; if2 = a .2 }))
-        (λ a. step-up-none _ _ _ _ q (omega arith))
-        (w .0 .came) in (
-          omega arith,
-          w .1 ∙ l .loop .inv .1 ∙ filled-no (passes g) at 1 q f,
-          w .2 ∙ l .loop .inv .2 ∙ filled-no (passes g) at 0 q f,
-        ))
+    let f : passes g q ≡ false =
+    ⊎-elim
+    (λ a. failed (record { before = record { before = record { before = b; if1 = a .0 }; reaches-none = a .1 }; if2 = a .2 }))
+    (λ a. step-up-none _ _ _ _ q (omega arith))
+    (w .0 .came) in (
+      omega arith,
+      w .1 ∙ l .loop .inv .1 ∙ filled-no (passes g) at 1 q f,
+      w .2 ∙ l .loop .inv .2 ∙ filled-no (passes g) at 0 q f,
+    ))
     (c .if1 .came)
 
 returns : tie.Need-returns Inv-loop μ-loop
