@@ -171,16 +171,17 @@ reads Stopped = false
 unfoldable pub readLine : Reading → List ℕ → Next
 readLine r line = cond (reads (r .phase)) (afterLine (counted r) (lineOf line)) (goOn r)
 
--- the end of the file: before 04 it is refusal 12 at the line after the last
-abbrev pub endIn : Phase → ℕ → List ℕ
-endIn Head lines = refusedLine (FrameOrder (lines + 1))
-endIn Tracks lines = refusedLine (FrameOrder (lines + 1))
-endIn Needs lines = refusedLine (FrameOrder (lines + 1))
-endIn Asking lines = []
-endIn Stopped lines = []
+-- 04 has not come
+abbrev pub unfinished : Phase → Bool
+unfinished Head = true
+unfinished Tracks = true
+unfinished Needs = true
+unfinished Asking = false
+unfinished Stopped = false
 
+-- the end of the file: before 04 it is refusal 12 at the line after the last
 abbrev pub atEnd : Reading → List ℕ
-atEnd r = endIn (r .phase) (r .lines)
+atEnd r = cond (unfinished (r .phase)) (refusedLine (FrameOrder (r .lines + 1))) []
 
 abbrev pub start : Reading
 start = record { phase = Head; lines = 0; n = 0; k = 0; tracks = []; needs = [] }

@@ -11,14 +11,18 @@ unfoldable pub firstLine : List ℕ → List ℕ
 firstLine [] = []
 firstLine (b ∷ bs) = b ∷ cond (eqb b 10) [] (firstLine bs)
 
+-- the one where there are no bytes, else the other
+abbrev pub ifNone : List ℕ → List ℕ → List ℕ → List ℕ
+ifNone [] none some = none
+ifNone (b ∷ bs) none some = some
+
 -- what is printed from a reading on; each line takes a byte at least, so as many turns as bytes are enough
 unfoldable pub printedFrom : ℕ → Reading → List ℕ → List ℕ
-printedFrom turns r [] = atEnd r
-printedFrom zero r (b ∷ bs) = []
-printedFrom (suc turns) r (b ∷ bs) =
-    let line = firstLine (b ∷ bs) in
+printedFrom zero r bytes = atEnd r
+printedFrom (suc turns) r bytes =
+    let line = firstLine bytes in
     let next = readLine r line in
-    next .printed ++ printedFrom turns (next .reading) (drop (length line) (b ∷ bs))
+    ifNone bytes (atEnd r) (next .printed ++ printedFrom turns (next .reading) (drop (length line) bytes))
 
 unfoldable pub coursePrints : List ℕ → List ℕ
 coursePrints file = printedFrom (length file) start file

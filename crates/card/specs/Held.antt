@@ -1,30 +1,53 @@
--- How a card and the lent areas hold a reading, and what each phase has settled of them.
-use Prim.Native.Nat.{ℕ, _+_, _*_, _≤_, _<_}
+-- How a card and the lent areas hold a reading, what each phase has settled of them, and what a step leaves.
+use Prim.Native.Nat.{ℕ, _+_, _*_, _/_, _≤_, _<_}
 use mathlib.Core.Path.{_≡_}
-use mathlib.Core.Bool.{true}
+use mathlib.Core.Bool.{Bool, true, false, cond}
 use mathlib.Core.List.{List}
-use lib.ListN.{length, take, replicate}
+use lib.ListN.{length, getD, take, replicate}
+use lib.Dec.{eqb}
 use Rattle.rules.specs.declared.Verdict.the-variants.{Fine}
-use Rattle.rules.specs.Ranges.{table}
-use Rattle.rules.specs.Listing.{size, listingVerdict}
+use Rattle.rules.specs.declared.NumberAnswer.{NumberAnswer}
+use Rattle.rules.specs.declared.NumberAnswer.the-variants.{Number, Refused}
+use Rattle.rules.specs.Ranges.{table, over}
+use Rattle.rules.specs.Listing.{size, within, listingVerdict}
 use Rattle.rules.specs.Order.{soundVerdict}
-use Rattle.rules.specs.Index.{lensOf, builtCount, builtWords, builtDirectory}
+use Rattle.rules.specs.Index.{Index, lensOf, builtCount, builtWords, builtDirectory}
+use Rattle.rules.specs.Questions.{kind12, kind13, kind14, kind15, kind16, kind17, kind18}
+use Rattle.rules.specs.Outcomes.{unitOutcome, boundOutcome}
 use Rattle.layout.specs.Starts.{rowStarts}
+use Rattle.known.specs.Asked.{parts, Sure}
+use Rattle.frames.specs.Printed.{refusedLine, listLine}
 use Rattle.card.specs.declared.Card.{Card}
+use Rattle.card.specs.declared.Step.{Step}
 use Rattle.card.specs.declared.Phase.{Phase}
 use Rattle.card.specs.declared.Phase.the-variants.{Head, Tracks, Needs, Asking, Stopped}
 use Rattle.card.specs.Card.{Reading, Next, listingOf, reads}
 
+-- ---- what is held
+
+-- what the lent areas hold
+pub record Areas : Type 0 where
+  pub tracks : List ℕ
+  pub needs : List ℕ
+  pub words : List ℕ
+  pub directory : List ℕ
+  pub work : List ℕ
+  pub list : List ℕ
+
+abbrev pub areas : List ℕ → List ℕ → List ℕ → List ℕ → List ℕ → List ℕ → Areas
+areas tracks needs words directory work list =
+    record { tracks = tracks; needs = needs; words = words; directory = directory; work = work; list = list }
+
 -- the reading that a card and the areas hold
-abbrev pub readingOf : Card → List ℕ → List ℕ → Reading
-readingOf card tracks needs =
+abbrev pub readingOf : Card → Areas → Reading
+readingOf card a =
     record {
       phase = card .phase;
       lines = card .lines;
       n = card .n;
       k = card .k;
-      tracks = take (card .units) tracks;
-      needs = take (2 * card .pairs) needs;
+      tracks = take (card .units) (a .tracks);
+      needs = take (2 * card .pairs) (a .needs);
     }
 
 abbrev pub freshCard : Card
@@ -41,43 +64,121 @@ freshCard =
       row = replicate 33 0;
     }
 
+-- the card with another phase
+abbrev pub cardIn : Phase → Card → Card
+cardIn phase card =
+    record {
+      phase = phase;
+      lines = card .lines;
+      n = card .n;
+      k = card .k;
+      units = card .units;
+      pairs = card .pairs;
+      count = card .count;
+      lens = card .lens;
+      row = card .row;
+    }
+
+-- the card once its index is built, by the lengths of the tracks
+abbrev pub loadedCard : Card → List ℕ → Card
+loadedCard card lens =
+    record {
+      phase = Asking;
+      lines = card .lines;
+      n = card .n;
+      k = card .k;
+      units = card .units;
+      pairs = card .pairs;
+      count = (getD (rowStarts (lensOf lens) (card .k)) (card .k) 0 + 63) / 64;
+      lens = lens;
+      row = rowStarts (lensOf lens) (card .k);
+    }
+
+-- ---- what a phase has settled
+
 -- n and k are within the limits
-pub record Limited (card : Card) : Type 0 where
-  pub n-in : (1 ≤ card .n) × (card .n ≤ 1024)
-  pub k-in : (1 ≤ card .k) × (card .k ≤ 32)
+pub record Limited (n k : ℕ) : Type 0 where
+  pub n-in : (1 ≤ n) × (n ≤ 1024)
+  pub k-in : (1 ≤ k) × (k ≤ 32)
 
 -- the listing is accepted, and the index lies in the areas
-pub record Loaded (card : Card) (tracks needs words directory : List ℕ) : Type 0 where
-  pub accepted : listingVerdict (listingOf (readingOf card tracks needs)) ≡ Fine
-  pub sound : soundVerdict (listingOf (readingOf card tracks needs)) ≡ Fine
-  pub count-is : card .count ≡ builtCount (listingOf (readingOf card tracks needs))
-  pub words-are : take (card .count) words ≡ builtWords (listingOf (readingOf card tracks needs))
-  pub directory-is : take (card .count) directory ≡ builtDirectory (listingOf (readingOf card tracks needs))
-  pub lens-are : card .lens ≡ table (size (take (card .units) tracks)) 32
+pub record Loaded (card : Card) (a : Areas) : Type 0 where
+  pub accepted : listingVerdict (listingOf (readingOf card a)) ≡ Fine
+  pub sound : soundVerdict (listingOf (readingOf card a)) ≡ Fine
+  pub count-is : card .count ≡ builtCount (listingOf (readingOf card a))
+  pub words-are : take (card .count) (a .words) ≡ builtWords (listingOf (readingOf card a))
+  pub directory-is : take (card .count) (a .directory) ≡ builtDirectory (listingOf (readingOf card a))
+  pub lens-are : card .lens ≡ table (size (take (card .units) (a .tracks))) 32
   pub starts : card .row ≡ rowStarts (lensOf (card .lens)) (card .k)
 
--- what a phase has settled
-abbrev pub Settled : Phase → Card → List ℕ → List ℕ → List ℕ → List ℕ → Type 0
-Settled Head card tracks needs words directory = (card .units ≡ 0) × (card .pairs ≡ 0)
-Settled Tracks card tracks needs words directory = Limited card × (card .units < card .n) × (card .pairs ≡ 0)
-Settled Needs card tracks needs words directory = Limited card × (card .units ≡ card .n)
-Settled Asking card tracks needs words directory = Limited card × (card .units ≡ card .n) × Loaded card tracks needs words directory
-Settled Stopped card tracks needs words directory = Unit {0}
+abbrev pub Settled : Phase → Card → Areas → Type 0
+Settled Head card a = (card .units ≡ 0) × (card .pairs ≡ 0)
+Settled Tracks card a = Limited (card .n) (card .k) × (card .units < card .n) × (card .pairs ≡ 0)
+Settled Needs card a = Limited (card .n) (card .k) × (card .units ≡ card .n)
+Settled Asking card a = Limited (card .n) (card .k) × (card .units ≡ card .n) × Loaded card a
+Settled Stopped card a = Unit {0}
 
--- a card over areas with room for any course; one that reads on has read at most 65,535 lines
-pub record Fit (card : Card) (tracks needs words directory work list : List ℕ) : Type 0 where
+-- areas with room for any course, and counts within it
+pub record Roomy (card : Card) (a : Areas) : Type 0 where
   pub lines-few : card .lines ≤ 65536
-  pub lines-left : reads (card .phase) ≡ true → card .lines ≤ 65535
   pub pairs-few : card .pairs ≤ 8192
   pub units-few : card .units ≤ 1024
-  pub track-room : 1024 ≤ length tracks
-  pub need-room : 16384 ≤ length needs
-  pub word-room : 992 ≤ length words
-  pub directory-room : 992 ≤ length directory
-  pub work-room : 32768 ≤ length work
-  pub list-room : 1024 ≤ length list
-  pub settled : Settled (card .phase) card tracks needs words directory
+  pub track-room : 1024 ≤ length (a .tracks)
+  pub need-room : 16384 ≤ length (a .needs)
+  pub word-room : 992 ≤ length (a .words)
+  pub directory-room : 992 ≤ length (a .directory)
+  pub work-room : 32768 ≤ length (a .work)
+  pub list-room : 1024 ≤ length (a .list)
+
+-- a card over its areas; one that reads on has read at most 65,535 lines
+pub record Fit (card : Card) (a : Areas) : Type 0 where
+  pub room : Roomy card a
+  pub lines-left : reads (card .phase) ≡ true → card .lines ≤ 65535
+  pub settled : Settled (card .phase) card a
+
+-- ---- what a step leaves
 
 -- a reading and the bytes printed
 abbrev pub next : Reading → List ℕ → Next
 next reading printed = record { reading = reading; printed = printed }
+
+-- the reading and the bytes are those wanted, the bytes stand at the start of the line area, and the card is fit
+pub record Took (wanted : Next) (before : List ℕ) (step : Step) (a : Areas) (out : List ℕ) : Type 0 where
+  pub gives : next (readingOf (step .card) a) (take (step .wrote) out) ≡ wanted
+  pub few : step .wrote ≤ 5125
+  pub printed : out ≡ over before (take (step .wrote) out)
+  pub fit : Fit (step .card) a
+
+-- ---- the questions
+
+-- the index as the questions are lent it
+abbrev pub asked : Card → List ℕ → List ℕ → List ℕ → Index
+asked card tracks words directory = parts (card .lens) (card .k) tracks words directory
+
+pub record Ready (card : Card) (tracks words directory : List ℕ) : Type 0 where
+  pub sure : Sure (asked card tracks words directory) (card .row)
+  pub units-are : length tracks ≡ card .n
+  pub units-few : length tracks ≤ 1024
+
+-- kinds 10 to 18, of which 12 to 16 carry 0 second
+abbrev pub isQuestion : ℕ → ℕ → Bool
+isQuestion kind b = cond (within 0x10 0x18 kind) (cond (within 0x12 0x16 kind) (eqb b 0) true) false
+
+-- the list that kinds 12 to 15 ask for, and the number of kinds 16 to 18
+abbrev pub unitsAsked : Index → ℕ → ℕ → List ℕ
+unitsAsked x kind u =
+    cond (eqb kind 0x12) (kind12 x u) (cond (eqb kind 0x13) (kind13 x u) (cond (eqb kind 0x14) (kind14 x u) (kind15 x u)))
+
+abbrev pub numberAsked : Index → ℕ → ℕ → ℕ → NumberAnswer
+numberAsked x kind u q =
+    cond (eqb kind 0x16) (unitOutcome x u (kind16 x u))
+    (cond (eqb kind 0x17) (boundOutcome x u q (kind17 x u q)) (boundOutcome x u q (kind18 x u q)))
+
+-- the units that an answer counts, or its refusal
+abbrev pub answerLine : NumberAnswer → List ℕ → List ℕ
+answerLine (Number count) list = listLine (take count list)
+answerLine (Refused refusal) list = refusedLine refusal
+
+abbrev pub counts : NumberAnswer → ℕ
+counts (Number count) = count
+counts (Refused refusal) = 0

@@ -3,6 +3,12 @@
 use card::Card;
 use libc::STDIN_FILENO;
 use libc::STDOUT_FILENO;
+ghost use Prim.Native.Nat.{_+_, _≤_, _<_};
+ghost use mathlib.Core.Path.{_≡_};
+ghost use mathlib.Core.Bool.{true};
+ghost use lib.ListN.{length};
+ghost use Rattle.card.specs.Card.{reads};
+ghost use Rattle.card.specs.Held.{areas, Fit};
 
 // A card with the bytes of a line that is not whole yet, and whether to read on.
 struct Feeding {
@@ -29,7 +35,13 @@ fn answer(
     work: &mut [u16],
     list: &mut [u16],
     out: &mut [u8],
-) -> Answered {
+) -> Answered
+    requires { ⌜ Fit card (areas (now tracks) (now needs) (now words) (now directory) (now work) (now list)) ⌝ }
+    requires { ⌜ 5125 ≤ length (now out) ⌝ }
+    ensures { λ r. ⌜ Fit (r .card) (areas (now (tracks .exit)) (now (needs .exit)) (now (words .exit)) (now (directory .exit)) (now (work .exit)) (now (list .exit))) ⌝ }
+    ensures { λ r. ⌜ r .used ≤ length (now (bytes .entry)) ⌝ }
+    ensures { λ r. ⌜ (r .written ≡ true → reads (r .card .phase) ≡ true → length (now (bytes .entry)) < r .used + 11) ⌝ }
+{
     let mut now = card;
     let mut used: usize = 0;
     let mut written = true;
@@ -58,7 +70,9 @@ fn answer(
 }
 
 // Moves the bytes from one place up to another to the front.
-fn keep(bytes: &mut [u8], from: usize, end: usize) {
+fn keep(bytes: &mut [u8], from: usize, end: usize)
+    requires { ⌜ end ≤ length (now bytes) ⌝ }
+{
     let mut i: usize = 0;
     while from + i < end {
         bytes[i] = bytes[from + i];
@@ -78,7 +92,12 @@ fn turn(
     work: &mut [u16],
     list: &mut [u16],
     out: &mut [u8],
-) -> Feeding {
+) -> Feeding
+    requires { ⌜ Fit (feeding .card) (areas (now tracks) (now needs) (now words) (now directory) (now work) (now list)) ⌝ }
+    requires { ⌜ (feeding .have < 11) × (11 ≤ length (now bytes)) × (5125 ≤ length (now out)) ⌝ }
+    ensures { λ r. ⌜ Fit (r .card) (areas (now (tracks .exit)) (now (needs .exit)) (now (words .exit)) (now (directory .exit)) (now (work .exit)) (now (list .exit))) ⌝ }
+    ensures { λ r. ⌜ r .have < 11 ⌝ }
+{
     let have = feeding.have;
     let card = feeding.card;
     let got = libc::read(STDIN_FILENO, &mut bytes[have..]);
@@ -138,7 +157,11 @@ fn serve(
     work: &mut [u16],
     list: &mut [u16],
     out: &mut [u8],
-) {
+)
+    requires { ⌜ (11 ≤ length (now bytes)) × (5125 ≤ length (now out)) ⌝ }
+    requires { ⌜ (1024 ≤ length (now tracks)) × (16384 ≤ length (now needs)) × (992 ≤ length (now words)) ⌝ }
+    requires { ⌜ (992 ≤ length (now directory)) × (32768 ≤ length (now work)) × (1024 ≤ length (now list)) ⌝ }
+{
     let mut feeding = Feeding {
         card: card::start(),
         have: 0,
