@@ -1,15 +1,15 @@
 -- What the answer to each question is on an index that is whole.
 -- Assumes nothing.
-use Prim.Native.Nat.{ℕ, _+_, _*_, _≤_, _<_}
-use mathlib.Core.Path.{_≡_, refl, sym, ap, _∙_}
+use Prim.Native.Nat.{ℕ, _+_, _≤_, _<_}
+use mathlib.Core.Path.{_≡_, refl, ap, _∙_}
 use mathlib.Core.Bool.{Bool, true, false, cond}
-use mathlib.Core.List.{List, []}
+use mathlib.Core.List.{List}
 use mathlib.Core.Logic.{_⊎_, inl, inr}
 use native.Mathlib.Omega.{arith}
 use lib.ListN.{length, take, drop, length-take}
 use lib.Seq.{take-append-seam}
-use lib.Dec.{eqb, leb, ltb}
-use borrow.Author.Tests.{eq-eqb, ne-eqb, le-leb, le-ltb, lt-ltb}
+use lib.Dec.{eqb}
+use borrow.Author.Tests.{ne-eqb, le-leb, le-ltb, lt-ltb}
 use Rattle.rules.specs.declared.Refusal.the-variants.{BadArgument, NotWhole, ShortList}
 use Rattle.rules.specs.declared.Verdict.the-variants as verdict
 use Rattle.rules.specs.declared.PairAnswer.the-variants as pair
@@ -25,7 +25,7 @@ use Rattle.frames.specs.Printed.{refusedLine, listLine}
 use Rattle.frames.proofs.Lengths.{length-refused, length-list}
 use Rattle.card.specs.declared.Card.{Card}
 use Rattle.card.specs.Card.{listPrinted}
-use Rattle.card.specs.Held.{asked, Ready, unitsAsked, numberAsked, answerLine, counts}
+use Rattle.card.specs.Held.{asked, Ready, numberAsked, answerLine, counts}
 
 -- the answer of a list question with the area that it leaves
 abbrev outcome : NumberAnswer → List ℕ → ListOutcome

@@ -1,16 +1,16 @@
 -- A question frame: which kinds are questions, what each asks for, and that a card with a built index is ready for them.
 -- Assumes nothing.
-use Prim.Native.Nat.{ℕ, _*_, _≤_, _<_}
+use Prim.Native.Nat.{ℕ, _≤_, _<_}
 use mathlib.Core.Path.{_≡_, refl, subst}
-use mathlib.Core.Bool.{Bool, true, false, cond}
+use mathlib.Core.Bool.{true, false, cond}
 use mathlib.Core.List.{List}
-use mathlib.Core.Logic.{_⊎_, inl, inr}
+use mathlib.Core.Logic.{inl, inr}
 use native.Mathlib.Omega.{arith}
 use native.Mathlib.Decide.{decLt, ℕ-discrete}
 use lib.ListN.{length, take}
 use lib.Dec.{eqb}
 use borrow.Author.Tests.{ne-eqb, eqb-true}
-use Rattle.rules.specs.Listing.{Listing, within}
+use Rattle.rules.specs.Listing.{Listing}
 use Rattle.rules.specs.Index.{builtIndex, builtHead}
 use Rattle.rules.specs.Questions.{kind10, kind11}
 use Rattle.rules.specs.Outcomes.{pairOutcome}
@@ -22,8 +22,8 @@ use Rattle.frames.specs.Printed.{pairLine, numberLine}
 use Rattle.card.specs.declared.Card.{Card}
 use Rattle.card.specs.declared.Phase.{Phase}
 use Rattle.card.specs.declared.Phase.the-variants.{Head, Tracks, Needs, Asking, Stopped}
-use Rattle.card.specs.Card.{Reading, Next, listingOf, indexOf, misplaced, answered, listPrinted, questionFrame}
-use Rattle.card.specs.Held.{Areas, areas, readingOf, Loaded, Settled, Roomy, Fit, Took, asked, Ready, isQuestion, unitsAsked, numberAsked}
+use Rattle.card.specs.Card.{Reading, listingOf, indexOf, misplaced, answered, listPrinted, questionFrame}
+use Rattle.card.specs.Held.{Areas, areas, readingOf, Settled, Roomy, Fit, Took, asked, Ready, isQuestion, unitsAsked, numberAsked}
 use Rattle.rules.specs.Ranges.{over}
 use Rattle.card.proofs.Answers.{cond-same}
 use Rattle.card.proofs.Cards.{took}
@@ -55,32 +55,34 @@ module _ (r : Reading) (kind a b : ℕ) where
   question-none : ((m : ℕ) → 0x10 ≤ m → m ≤ 0x18 → kind ≡ m → ⊥) → questionFrame r kind a b ≡ misplaced r
   unfolding questionFrame
   question-none h =
-      rw
-      (ne-eqb kind 0x10 (h 0x10 (omega arith) (omega arith)),
-      ne-eqb kind 0x11 (h 0x11 (omega arith) (omega arith)),
-      ne-eqb kind 0x12 (h 0x12 (omega arith) (omega arith)),
-      ne-eqb kind 0x13 (h 0x13 (omega arith) (omega arith)),
-      ne-eqb kind 0x14 (h 0x14 (omega arith) (omega arith)),
-      ne-eqb kind 0x15 (h 0x15 (omega arith) (omega arith)),
-      ne-eqb kind 0x16 (h 0x16 (omega arith) (omega arith)),
-      ne-eqb kind 0x17 (h 0x17 (omega arith) (omega arith)),
-      ne-eqb kind 0x18 (h 0x18 (omega arith) (omega arith)))
+      rw (
+        ne-eqb kind 0x10 (h 0x10 (omega arith) (omega arith)),
+        ne-eqb kind 0x11 (h 0x11 (omega arith) (omega arith)),
+        ne-eqb kind 0x12 (h 0x12 (omega arith) (omega arith)),
+        ne-eqb kind 0x13 (h 0x13 (omega arith) (omega arith)),
+        ne-eqb kind 0x14 (h 0x14 (omega arith) (omega arith)),
+        ne-eqb kind 0x15 (h 0x15 (omega arith) (omega arith)),
+        ne-eqb kind 0x16 (h 0x16 (omega arith) (omega arith)),
+        ne-eqb kind 0x17 (h 0x17 (omega arith) (omega arith)),
+        ne-eqb kind 0x18 (h 0x18 (omega arith) (omega arith)),
+      )
 
   -- kinds 12 to 16 with a second number that is not 0
   question-filled : 0x12 ≤ kind → kind ≤ 0x16 → eqb b 0 ≡ false → questionFrame r kind a b ≡ misplaced r
   unfolding questionFrame
   question-filled p q h =
-      rw
-      (ne-eqb kind 0x10 (λ e. omega arith),
-      ne-eqb kind 0x11 (λ e. omega arith),
-      ne-eqb kind 0x17 (λ e. omega arith),
-      ne-eqb kind 0x18 (λ e. omega arith),
-      h,
-      cond-same (eqb kind 0x16) (misplaced r),
-      cond-same (eqb kind 0x15) (misplaced r),
-      cond-same (eqb kind 0x14) (misplaced r),
-      cond-same (eqb kind 0x13) (misplaced r),
-      cond-same (eqb kind 0x12) (misplaced r))
+      rw (
+        ne-eqb kind 0x10 (λ e. omega arith),
+        ne-eqb kind 0x11 (λ e. omega arith),
+        ne-eqb kind 0x17 (λ e. omega arith),
+        ne-eqb kind 0x18 (λ e. omega arith),
+        h,
+        cond-same (eqb kind 0x16) (misplaced r),
+        cond-same (eqb kind 0x15) (misplaced r),
+        cond-same (eqb kind 0x14) (misplaced r),
+        cond-same (eqb kind 0x13) (misplaced r),
+        cond-same (eqb kind 0x12) (misplaced r),
+      )
 
   pub question-misplaced : isQuestion kind b ≡ false → questionFrame r kind a b ≡ misplaced r
   question-misplaced h = go (decLt kind 0x10) (decLt 0x18 kind)
@@ -182,12 +184,7 @@ module _ {card : Card} {ts needs ws ds work list : List ℕ} (fit : Fit card (ar
         lines-few = h;
         pairs-few = r .pairs-few;
         units-few = r .units-few;
-        track-room = r .track-room;
-        need-room = r .need-room;
-        word-room = r .word-room;
-        directory-room = r .directory-room;
-        work-room = r .work-room;
-        list-room = r .list-room;
+        areas-room = r .areas-room;
       }
 
   pub next-fit : (lines : ℕ) → lines ≤ 65535 → Fit (renumbered card lines) held
@@ -207,12 +204,14 @@ module _ {card : Card} {ts needs ws ds work list : List ℕ} (fit : Fit card (ar
           lines-few = r .lines-few;
           pairs-few = r .pairs-few;
           units-few = r .units-few;
-          track-room = r .track-room;
-          need-room = r .need-room;
-          word-room = r .word-room;
-          directory-room = r .directory-room;
-          work-room = r .work-room;
-          list-room = omega arith;
+          areas-room = record {
+            track-room = r .areas-room .track-room;
+            need-room = r .areas-room .need-room;
+            word-room = r .areas-room .word-room;
+            directory-room = r .areas-room .directory-room;
+            work-room = r .areas-room .work-room;
+            list-room = omega arith;
+          };
         };
         lines-left = fit .lines-left;
         settled = settled-kept (card .phase) card ts needs ws ds work list (card .lines) list′ (fit .settled);

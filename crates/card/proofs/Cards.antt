@@ -1,8 +1,8 @@
 -- What a step leaves of a card and its areas, frame by frame.
 -- Assumes nothing.
-use Prim.Native.Nat.{ℕ, suc, _+_, _*_, _/_, _≤_, _<_}
-use mathlib.Core.Path.{_≡_, refl, sym, ap, _∙_}
-use mathlib.Core.Bool.{true, false, cond, _&&_}
+use Prim.Native.Nat.{ℕ, suc, _+_, _*_, _≤_, _<_}
+use mathlib.Core.Path.{_≡_, refl, sym, _∙_}
+use mathlib.Core.Bool.{true, cond, _&&_}
 use mathlib.Core.List.{List, [], _∷_, _++_, append-assoc}
 use mathlib.Core.Logic.{_⊎_, ⊎-elim}
 use native.Mathlib.Omega.{arith}
@@ -19,10 +19,9 @@ use Rattle.rules.proofs.Verdicts.{and-both, not-yes, within-is, is-within}
 use Rattle.frames.specs.Printed.{refusedLine}
 use Rattle.frames.proofs.Lengths.{length-refused}
 use Rattle.card.specs.declared.Card.{Card}
-use Rattle.card.specs.declared.Step.{Step}
 use Rattle.card.specs.declared.Phase.{Phase}
-use Rattle.card.specs.declared.Phase.the-variants.{Head, Tracks, Needs, Asking, Stopped}
-use Rattle.card.specs.Card.{Reading, Next, goOn, refuse, misplaced, reads, headFrame, trackFrame, needFrame}
+use Rattle.card.specs.declared.Phase.the-variants.{Head, Tracks, Needs, Stopped}
+use Rattle.card.specs.Card.{Reading, goOn, refuse, misplaced, reads, headFrame, trackFrame, needFrame}
 use Rattle.card.specs.Held.{Areas, areas, readingOf, cardIn, Limited, Settled, Roomy, Fit, next, Took}
 
 -- ---- what is printed
@@ -53,12 +52,7 @@ stopped-fit h =
         lines-few = h .lines-few;
         pairs-few = h .pairs-few;
         units-few = h .units-few;
-        track-room = h .track-room;
-        need-room = h .need-room;
-        word-room = h .word-room;
-        directory-room = h .directory-room;
-        work-room = h .work-room;
-        list-room = h .list-room;
+        areas-room = h .areas-room;
       };
       lines-left = λ e. absurd (let z : _≡_ {A = ℕ} 0 1 = cc in omega arith);
       settled = tt;
@@ -107,21 +101,16 @@ took-head {card} {a} n k before e l fit =
     let none′ : take (2 * card .pairs) (a .needs) ≡ [] = rw (s .1) in
     let left : reads Head ≡ true → card .lines ≤ 65535 = rw e at (fit .lines-left) in
     let fit′ : Fit (headCard card n k) a =
-        record {
-          room = record {
-            lines-few = fit .room .lines-few;
-            pairs-few = fit .room .pairs-few;
-            units-few = fit .room .units-few;
-            track-room = fit .room .track-room;
-            need-room = fit .room .need-room;
-            word-room = fit .room .word-room;
-            directory-room = fit .room .directory-room;
-            work-room = fit .room .work-room;
-            list-room = fit .room .list-room;
-          };
-          lines-left = left;
-          settled = (l, omega arith, s .1);
-        }
+    record {
+      room = record {
+        lines-few = fit .room .lines-few;
+        pairs-few = fit .room .pairs-few;
+        units-few = fit .room .units-few;
+        areas-room = fit .room .areas-room;
+      };
+      lines-left = left;
+      settled = (l, omega arith, s .1);
+    }
     in
     rw (is-within (l .n-in .0) (l .n-in .1), is-within (l .k-in .0) (l .k-in .1))
     (rw (none, none′) at (took-nothing {card = headCard card n k} before fit′))
@@ -166,12 +155,14 @@ module _ {card : Card} {tracks needs words directory work list : List ℕ} (unit
           lines-few = fit .room .lines-few;
           pairs-few = fit .room .pairs-few;
           units-few = omega arith;
-          track-room = rw length-set (fit .room .track-room);
-          need-room = fit .room .need-room;
-          word-room = fit .room .word-room;
-          directory-room = fit .room .directory-room;
-          work-room = fit .room .work-room;
-          list-room = fit .room .list-room;
+          areas-room = record {
+            track-room = rw length-set (fit .room .areas-room .track-room);
+            need-room = fit .room .areas-room .need-room;
+            word-room = fit .room .areas-room .word-room;
+            directory-room = fit .room .areas-room .directory-room;
+            work-room = fit .room .areas-room .work-room;
+            list-room = fit .room .areas-room .list-room;
+          };
         };
         lines-left = λ r. left refl;
         settled = ⊎-elim (λ w. rw (w .1) (s .0, omega arith)) (λ w. rw (w .1) (s .0, omega arith, s .2)) way;
@@ -184,10 +175,10 @@ module _ {card : Card} {tracks needs words directory work list : List ℕ} (unit
   took-track phase before e h way =
       let s : Settled Tracks card held = rw e at (fit .settled) in
       let one-more : take (card .units + 1) (set tracks (card .units) track) ≡ take (card .units) tracks ++ (track ∷ []) =
-          rw add-one (take-suc-set tracks (card .units) track (omega arith))
+      rw add-one (take-suc-set tracks (card .units) track (omega arith))
       in
       let next-phase : phase ≡ cond (eqb unit (card .n)) Needs Tracks =
-          ⊎-elim (λ w. rw (eq-eqb unit (card .n) (w .0)) (w .1)) (λ w. rw (ne-eqb unit (card .n) (w .0)) (w .1)) way
+      ⊎-elim (λ w. rw (eq-eqb unit (card .n) (w .0)) (w .1)) (λ w. rw (ne-eqb unit (card .n) (w .0)) (w .1)) way
       in
       rw (tracks-held (fit .room), eq-eqb unit (card .units + 1) h, ← next-phase, ← one-more) (took-nothing before (track-fit phase e h way))
 
@@ -236,12 +227,14 @@ module _ {card : Card} {tracks needs words directory work list : List ℕ} (u v 
           lines-few = fit .room .lines-few;
           pairs-few = omega arith;
           units-few = fit .room .units-few;
-          track-room = fit .room .track-room;
-          need-room = rw (length-set, length-set) (fit .room .need-room);
-          word-room = fit .room .word-room;
-          directory-room = fit .room .directory-room;
-          work-room = fit .room .work-room;
-          list-room = fit .room .list-room;
+          areas-room = record {
+            track-room = fit .room .areas-room .track-room;
+            need-room = rw (length-set, length-set) (fit .room .areas-room .need-room);
+            word-room = fit .room .areas-room .word-room;
+            directory-room = fit .room .areas-room .directory-room;
+            work-room = fit .room .areas-room .work-room;
+            list-room = fit .room .areas-room .list-room;
+          };
         };
         lines-left = fit .lines-left;
         settled = rw e s;

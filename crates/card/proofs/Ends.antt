@@ -1,6 +1,6 @@
 -- The end of a listing, 04: over areas with room for any course a build refuses what the listing is refused for, and else leaves the index.
 -- Assumes nothing.
-use Prim.Native.Nat.{ℕ, _*_, _≤_}
+use Prim.Native.Nat.{ℕ, _≤_}
 use mathlib.Core.Path.{_≡_, refl, sym, ap, _∙_}
 use mathlib.Core.Bool.{_&&_}
 use mathlib.Core.List.{List}
@@ -50,13 +50,14 @@ module _ {card : Card} {tracks needs words directory work list : List ℕ} (fit 
     pub end-misplaced : (count ≡ card .pairs → filler ≡ 0 → ⊥) → endFrame (readingOf card held) count filler ≡ misplaced (readingOf card held)
     unfolding endFrame
     end-misplaced h =
-        rw
-        (needs-held (fit .room),
-        not-yes
-        (eqb count (card .pairs) && eqb filler 0)
-        (λ t.
-        let both = and-both (eqb count (card .pairs)) (eqb filler 0) t in
-        h (eqb-true count (card .pairs) (both .0)) (eqb-true filler 0 (both .1))))
+        rw (
+          needs-held (fit .room),
+          not-yes
+              (eqb count (card .pairs) && eqb filler 0)
+              (λ t.
+              let both = and-both (eqb count (card .pairs)) (eqb filler 0) t in
+              h (eqb-true count (card .pairs) (both .0)) (eqb-true filler 0 (both .1))),
+        )
 
   -- ---- the verdict of the build
 
@@ -105,12 +106,14 @@ module _ {card : Card} {tracks needs words directory work list : List ℕ} (fit 
             lines-few = r .lines-few;
             pairs-few = r .pairs-few;
             units-few = r .units-few;
-            track-room = r .track-room;
-            need-room = r .need-room;
-            word-room = omega arith;
-            directory-room = omega arith;
-            work-room = omega arith;
-            list-room = r .list-room;
+            areas-room = record {
+              track-room = r .areas-room .track-room;
+              need-room = r .areas-room .need-room;
+              word-room = omega arith;
+              directory-room = omega arith;
+              work-room = omega arith;
+              list-room = r .areas-room .list-room;
+            };
           }
 
       module _ (e : card .phase ≡ Needs) (fine : built .verdict ≡ Fine) where
@@ -148,12 +151,7 @@ module _ {card : Card} {tracks needs words directory work list : List ℕ} (fit 
                 lines-few = room .lines-few;
                 pairs-few = room .pairs-few;
                 units-few = room .units-few;
-                track-room = room .track-room;
-                need-room = room .need-room;
-                word-room = room .word-room;
-                directory-room = room .directory-room;
-                work-room = room .work-room;
-                list-room = room .list-room;
+                areas-room = room .areas-room;
               };
               lines-left = left;
               settled = (

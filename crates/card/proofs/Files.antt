@@ -186,10 +186,11 @@ piece-prints r (b ∷ bs) h = go (lineOf (firstLine (b ∷ bs))) refl
         ∙ rw (line-long (firstLine (b ∷ bs)) e, line-frame (b ∷ bs) e)
     go NoFrame e =
         no-frame-prints r b bs e
-        ∙ rw
-        (piece-line r (b ∷ bs),
-        stopped-prints (length (drop 11 (b ∷ bs))) (readLine r (firstLine (b ∷ bs)) .reading) (drop 11 (b ∷ bs)) (no-frame-stops r (firstLine (b ∷ bs)) e),
-        append-nil)
+        ∙ rw (
+          piece-line r (b ∷ bs),
+          stopped-prints (length (drop 11 (b ∷ bs))) (readLine r (firstLine (b ∷ bs)) .reading) (drop 11 (b ∷ bs)) (no-frame-stops r (firstLine (b ∷ bs)) e),
+          append-nil,
+        )
 
 -- m pieces are read, and the rest from there
 pub fed-prints : (r : Reading) (bytes : List ℕ) (m : ℕ) → 11 * m ≤ length bytes

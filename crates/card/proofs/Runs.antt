@@ -15,7 +15,7 @@ use borrow.Rule.Slice.PartMut.{putMid}
 use Rattle.rules.proofs.Verdicts.{and-both}
 use Rattle.card.specs.declared.Card.{Card}
 use Rattle.card.specs.declared.Step.{Step}
-use Rattle.card.specs.Card.{Reading, Next, readLine}
+use Rattle.card.specs.Card.{Reading, readLine}
 use Rattle.card.specs.Files.{fed}
 use Rattle.card.specs.Held.{Areas, readingOf, Fit, next, Took}
 
@@ -60,10 +60,10 @@ running-next {first} {bytes} {card} {a} {out} {used} {wrote} {step} {a′} {line
     let one-more : (used + 11) / 11 ≡ suc (used / 11) = omega arith in
     let at : 11 * (used / 11) ≡ used = omega (arith, run .lines) in
     let start : take (wrote + step .wrote) (take wrote out ++ part) ≡ take wrote out ++ take (step .wrote) part =
-        ap (λ m. take (m + step .wrote) (take wrote out ++ part)) (sym (length-take-le wrote out (run .wrote-in))) ∙ take-append-add (take wrote out) part (step .wrote)
+    ap (λ m. take (m + step .wrote) (take wrote out ++ part)) (sym (length-take-le wrote out (run .wrote-in))) ∙ take-append-add (take wrote out) part (step .wrote)
     in
     let read : next (readingOf (step .card) a′) (take (step .wrote) part) ≡ readLine (readingOf card a) (take 11 (drop used bytes)) =
-        took .gives ∙ rw is
+    took .gives ∙ rw is
     in
     record {
       gives = rw (one-more, at, ← run .gives, ← read, there, start);

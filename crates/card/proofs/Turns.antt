@@ -1,6 +1,6 @@
 -- Which frame is taken in which phase, and what a line leads to.
 -- Assumes nothing.
-use Prim.Native.Nat.{ℕ, _+_, _*_, _≤_, _<_}
+use Prim.Native.Nat.{ℕ, _+_, _≤_, _<_}
 use mathlib.Core.Path.{_≡_, subst}
 use mathlib.Core.Bool.{true}
 use mathlib.Core.List.{List}

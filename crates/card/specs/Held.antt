@@ -118,17 +118,21 @@ Settled Needs card a = Limited (card .n) (card .k) × (card .units ≡ card .n)
 Settled Asking card a = Limited (card .n) (card .k) × (card .units ≡ card .n) × Loaded card a
 Settled Stopped card a = Unit {0}
 
--- areas with room for any course, and counts within it
-pub record Roomy (card : Card) (a : Areas) : Type 0 where
-  pub lines-few : card .lines ≤ 65536
-  pub pairs-few : card .pairs ≤ 8192
-  pub units-few : card .units ≤ 1024
+-- areas with room for any course
+pub record Room (a : Areas) : Type 0 where
   pub track-room : 1024 ≤ length (a .tracks)
   pub need-room : 16384 ≤ length (a .needs)
   pub word-room : 992 ≤ length (a .words)
   pub directory-room : 992 ≤ length (a .directory)
   pub work-room : 32768 ≤ length (a .work)
   pub list-room : 1024 ≤ length (a .list)
+
+-- and counts within them
+pub record Roomy (card : Card) (a : Areas) : Type 0 where
+  pub lines-few : card .lines ≤ 65536
+  pub pairs-few : card .pairs ≤ 8192
+  pub units-few : card .units ≤ 1024
+  pub areas-room : Room a
 
 -- a card over its areas; one that reads on has read at most 65,535 lines
 pub record Fit (card : Card) (a : Areas) : Type 0 where

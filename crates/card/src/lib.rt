@@ -95,7 +95,10 @@ fn refuse(card: Card, refusal: Refusal, out: &mut [u8]) -> Step
     ensures { λ r. ⌜ ((a : Areas) → Roomy card a → Took (rule.refuse (readingOf card a) refusal) (now (out .entry)) r a (now (out .exit))) ⌝ }
 {
     let wrote = frames::put_refused(out, refusal);
-    Step { card: in_phase(card, Phase::Stopped), wrote }
+    Step {
+        card: in_phase(card, Phase::Stopped),
+        wrote,
+    }
 }
 
 // A frame that is not allowed here.
@@ -118,7 +121,10 @@ fn head_frame(card: Card, n: u16, k: u16, out: &mut [u8]) -> Step
     let mut next = in_phase(card, Phase::Tracks);
     next.n = n;
     next.k = k;
-    Step { card: next, wrote: 0 }
+    Step {
+        card: next,
+        wrote: 0,
+    }
 }
 
 fn track_frame(card: Card, unit: u16, track: u16, tracks: &mut [u16], out: &mut [u8]) -> Step
@@ -130,10 +136,17 @@ fn track_frame(card: Card, unit: u16, track: u16, tracks: &mut [u16], out: &mut 
         return misplaced(card, out);
     }
     tracks[units] = track;
-    let phase = if unit == card.n { Phase::Needs } else { Phase::Tracks };
+    let phase = if unit == card.n {
+        Phase::Needs
+    } else {
+        Phase::Tracks
+    };
     let mut next = in_phase(card, phase);
     next.units = units + 1;
-    Step { card: next, wrote: 0 }
+    Step {
+        card: next,
+        wrote: 0,
+    }
 }
 
 fn need_frame(card: Card, u: u16, v: u16, needs: &mut [u16], out: &mut [u8]) -> Step
@@ -148,7 +161,10 @@ fn need_frame(card: Card, u: u16, v: u16, needs: &mut [u16], out: &mut [u8]) -> 
     needs[2 * pairs + 1] = v;
     let mut next = card;
     next.pairs = pairs + 1;
-    Step { card: next, wrote: 0 }
+    Step {
+        card: next,
+        wrote: 0,
+    }
 }
 
 // A bit's number as a size.
@@ -173,7 +189,17 @@ fn load(card: Card, lens: [u16; 32], bits: u32, out: &mut [u8]) -> Step
     Step { card: next, wrote }
 }
 
-fn end_frame(card: Card, count: u16, filler: u16, tracks: &[u16], needs: &[u16], words: &mut [u64], directory: &mut [u16], work: &mut [u16], out: &mut [u8]) -> Step
+fn end_frame(
+    card: Card,
+    count: u16,
+    filler: u16,
+    tracks: &[u16],
+    needs: &[u16],
+    words: &mut [u64],
+    directory: &mut [u16],
+    work: &mut [u16],
+    out: &mut [u8],
+) -> Step
     requires { ⌜ (card .units ≤ length (now tracks)) × (2 * card .pairs ≤ length (now needs)) × (card .k ≤ 32) × (20 ≤ length (now out)) ⌝ }
     ensures { λ r. ⌜ ((list : List ℕ) → card .phase ≡ Phase.Needs → Fit card (areas (now (tracks .entry)) (now (needs .entry)) (now (words .entry)) (now (directory .entry)) (now (work .entry)) list) → Took (rule.endFrame (readingOf card (areas (now (tracks .entry)) (now (needs .entry)) (now (words .entry)) (now (directory .entry)) (now (work .entry)) list)) count filler) (now (out .entry)) r (areas (now (tracks .entry)) (now (needs .entry)) (now (words .exit)) (now (directory .exit)) (now (work .exit)) list) (now (out .exit))) ⌝ }
 {
@@ -182,7 +208,15 @@ fn end_frame(card: Card, count: u16, filler: u16, tracks: &[u16], needs: &[u16],
     if count as usize != card.pairs || filler != 0 {
         return misplaced(card, out);
     }
-    let built = build::build(card.n, card.k, &tracks[..units], &needs[..numbers], words, directory, work);
+    let built = build::build(
+        card.n,
+        card.k,
+        &tracks[..units],
+        &needs[..numbers],
+        words,
+        directory,
+        work,
+    );
     let verdict = built.verdict;
     if let Verdict::Refused(refusal) = verdict {
         return refuse(card, refusal, out);
@@ -194,7 +228,15 @@ fn end_frame(card: Card, count: u16, filler: u16, tracks: &[u16], needs: &[u16],
 // ---- the questions
 
 // Kind 11, or kind 10.
-fn pair_answer(card: Card, direct: bool, u: u16, v: u16, tracks: &[u16], words: &[u64], directory: &[u16]) -> PairAnswer
+fn pair_answer(
+    card: Card,
+    direct: bool,
+    u: u16,
+    v: u16,
+    tracks: &[u16],
+    words: &[u64],
+    directory: &[u16],
+) -> PairAnswer
     requires { ⌜ Ready card (now tracks) (now words) (now directory) ⌝ }
     ensures { λ r. ⌜ r ≡ pairOutcome (asked card (now (tracks .entry)) (now (words .entry)) (now (directory .entry))) u v (cond direct (kind11 (asked card (now (tracks .entry)) (now (words .entry)) (now (directory .entry))) u v) (kind10 (asked card (now (tracks .entry)) (now (words .entry)) (now (directory .entry))) u v)) ⌝ }
 {
@@ -216,7 +258,15 @@ fn pair_answer(card: Card, direct: bool, u: u16, v: u16, tracks: &[u16], words: 
 }
 
 // Kinds 12 to 15, written from the start of the list area.
-fn list_answer(card: Card, kind: u8, u: u16, tracks: &[u16], words: &[u64], directory: &[u16], list: &mut [u16]) -> NumberAnswer
+fn list_answer(
+    card: Card,
+    kind: u8,
+    u: u16,
+    tracks: &[u16],
+    words: &[u64],
+    directory: &[u16],
+    list: &mut [u16],
+) -> NumberAnswer
     requires { ⌜ Ready card (now tracks) (now words) (now directory) ⌝ }
     requires { ⌜ 1024 ≤ length (now list) ⌝ }
     ensures { λ r. ⌜ (counts r ≤ 1024) × (answerLine r (now (list .exit)) ≡ rule.listPrinted (asked card (now (tracks .entry)) (now (words .entry)) (now (directory .entry))) u (unitsAsked (asked card (now (tracks .entry)) (now (words .entry)) (now (directory .entry))) kind u)) ⌝ }
@@ -240,7 +290,15 @@ fn list_answer(card: Card, kind: u8, u: u16, tracks: &[u16], words: &[u64], dire
 }
 
 // Kinds 16 to 18.
-fn number_answer(card: Card, kind: u8, u: u16, q: u16, tracks: &[u16], words: &[u64], directory: &[u16]) -> NumberAnswer
+fn number_answer(
+    card: Card,
+    kind: u8,
+    u: u16,
+    q: u16,
+    tracks: &[u16],
+    words: &[u64],
+    directory: &[u16],
+) -> NumberAnswer
     requires { ⌜ Ready card (now tracks) (now words) (now directory) ⌝ }
     ensures { λ r. ⌜ r ≡ numberAsked (asked card (now (tracks .entry)) (now (words .entry)) (now (directory .entry))) kind u q ⌝ }
 {
@@ -257,7 +315,16 @@ fn number_answer(card: Card, kind: u8, u: u16, q: u16, tracks: &[u16], words: &[
         return NumberAnswer::Refused(Refusal::BadArgument(2));
     }
     if kind == 0x17 {
-        return NumberAnswer::Number(known::unit_low(tracks, words, directory, &lens, &row, k, u, q));
+        return NumberAnswer::Number(known::unit_low(
+            tracks,
+            words,
+            directory,
+            &lens,
+            &row,
+            k,
+            u,
+            q,
+        ));
     }
     NumberAnswer::Number(known::unit_high(tracks, words, directory, &lens, &row, k, u, q))
 }
@@ -289,7 +356,17 @@ fn is_question(kind: u8, b: u16) -> bool
     b == 0
 }
 
-fn question_frame(card: Card, kind: u8, a: u16, b: u16, tracks: &[u16], words: &[u64], directory: &[u16], list: &mut [u16], out: &mut [u8]) -> Step
+fn question_frame(
+    card: Card,
+    kind: u8,
+    a: u16,
+    b: u16,
+    tracks: &[u16],
+    words: &[u64],
+    directory: &[u16],
+    list: &mut [u16],
+    out: &mut [u8],
+) -> Step
     requires { ⌜ Ready card (now tracks) (now words) (now directory) ⌝ }
     requires { ⌜ (1024 ≤ length (now list)) × (5125 ≤ length (now out)) ⌝ }
     ensures { λ r. ⌜ ((ts needs ws ds work : List ℕ) → Fit card (areas ts needs ws ds work (now (list .entry))) → rule.indexOf (readingOf card (areas ts needs ws ds work (now (list .entry)))) ≡ asked card (now (tracks .entry)) (now (words .entry)) (now (directory .entry)) → Took (rule.questionFrame (readingOf card (areas ts needs ws ds work (now (list .entry)))) kind a b) (now (out .entry)) r (areas ts needs ws ds work (now (list .exit))) (now (out .exit))) ⌝ }
@@ -299,14 +376,23 @@ fn question_frame(card: Card, kind: u8, a: u16, b: u16, tracks: &[u16], words: &
     }
     if kind <= 0x11 {
         let answer = pair_answer(card, kind == 0x11, a, b, tracks, words, directory);
-        return Step { card, wrote: frames::put_pair(out, answer) };
+        return Step {
+            card,
+            wrote: frames::put_pair(out, answer),
+        };
     }
     if kind <= 0x15 {
         let answer = list_answer(card, kind, a, tracks, words, directory, list);
-        return Step { card, wrote: put_answer(answer, list, out) };
+        return Step {
+            card,
+            wrote: put_answer(answer, list, out),
+        };
     }
     let answer = number_answer(card, kind, a, b, tracks, words, directory);
-    Step { card, wrote: frames::put_number(out, answer) }
+    Step {
+        card,
+        wrote: frames::put_number(out, answer),
+    }
 }
 
 // ---- one line
@@ -339,7 +425,17 @@ fn is_unfinished(card: Card) -> bool
     }
 }
 
-fn frame_in_phase(card: Card, frame: Frame, tracks: &mut [u16], needs: &mut [u16], words: &mut [u64], directory: &mut [u16], work: &mut [u16], list: &mut [u16], out: &mut [u8]) -> Step
+fn frame_in_phase(
+    card: Card,
+    frame: Frame,
+    tracks: &mut [u16],
+    needs: &mut [u16],
+    words: &mut [u64],
+    directory: &mut [u16],
+    work: &mut [u16],
+    list: &mut [u16],
+    out: &mut [u8],
+) -> Step
     requires { ⌜ Fit card (areas (now tracks) (now needs) (now words) (now directory) (now work) (now list)) ⌝ }
     requires { ⌜ 5125 ≤ length (now out) ⌝ }
     ensures { λ r. ⌜ Took (rule.frameInPhase (card .phase) (readingOf card (areas (now (tracks .entry)) (now (needs .entry)) (now (words .entry)) (now (directory .entry)) (now (work .entry)) (now (list .entry)))) frame) (now (out .entry)) r (areas (now (tracks .exit)) (now (needs .exit)) (now (words .exit)) (now (directory .exit)) (now (work .exit)) (now (list .exit))) (now (out .exit)) ⌝ }
@@ -365,19 +461,49 @@ fn frame_in_phase(card: Card, frame: Frame, tracks: &mut [u16], needs: &mut [u16
             if frame.kind != 0x04 {
                 return misplaced(card, out);
             }
-            end_frame(card, frame.a, frame.b, tracks, needs, words, directory, work, out)
+            end_frame(
+                card,
+                frame.a,
+                frame.b,
+                tracks,
+                needs,
+                words,
+                directory,
+                work,
+                out,
+            )
         }
         Phase::Asking => {
             let units = card.units;
             let count = card.count;
-            question_frame(card, frame.kind, frame.a, frame.b, &tracks[..units], &words[..count], &directory[..count], list, out)
+            question_frame(
+                card,
+                frame.kind,
+                frame.a,
+                frame.b,
+                &tracks[..units],
+                &words[..count],
+                &directory[..count],
+                list,
+                out,
+            )
         }
         Phase::Stopped => Step { card, wrote: 0 },
     }
 }
 
 // Reads one line. The areas are large enough for any course; `out` for any answer.
-pub fn read(card: Card, line: &[u8], tracks: &mut [u16], needs: &mut [u16], words: &mut [u64], directory: &mut [u16], work: &mut [u16], list: &mut [u16], out: &mut [u8]) -> Step
+pub fn read(
+    card: Card,
+    line: &[u8],
+    tracks: &mut [u16],
+    needs: &mut [u16],
+    words: &mut [u64],
+    directory: &mut [u16],
+    work: &mut [u16],
+    list: &mut [u16],
+    out: &mut [u8],
+) -> Step
     requires { ⌜ Fit card (areas (now tracks) (now needs) (now words) (now directory) (now work) (now list)) ⌝ }
     requires { ⌜ 5125 ≤ length (now out) ⌝ }
     ensures { λ r. ⌜ Took (rule.readLine (readingOf card (areas (now (tracks .entry)) (now (needs .entry)) (now (words .entry)) (now (directory .entry)) (now (work .entry)) (now (list .entry)))) (now (line .entry))) (now (out .entry)) r (areas (now (tracks .exit)) (now (needs .exit)) (now (words .exit)) (now (directory .exit)) (now (work .exit)) (now (list .exit))) (now (out .exit)) ⌝ }
@@ -393,7 +519,17 @@ pub fn read(card: Card, line: &[u8], tracks: &mut [u16], needs: &mut [u16], word
     if rules::MAX_LINES < next.lines {
         return misplaced(next, out);
     }
-    frame_in_phase(next, frame, tracks, needs, words, directory, work, list, out)
+    frame_in_phase(
+        next,
+        frame,
+        tracks,
+        needs,
+        words,
+        directory,
+        work,
+        list,
+        out,
+    )
 }
 
 // ---- many lines
@@ -414,7 +550,17 @@ fn goes_on(card: Card, left: usize, room: usize) -> bool
 
 // Reads line after line from the start of the bytes: a good line is eleven bytes, and anything else stops the card. It ends where the
 // card stops, fewer than eleven bytes are left, or the room for another answer is not there.
-pub fn run(card: Card, bytes: &[u8], tracks: &mut [u16], needs: &mut [u16], words: &mut [u64], directory: &mut [u16], work: &mut [u16], list: &mut [u16], out: &mut [u8]) -> Progress
+pub fn run(
+    card: Card,
+    bytes: &[u8],
+    tracks: &mut [u16],
+    needs: &mut [u16],
+    words: &mut [u64],
+    directory: &mut [u16],
+    work: &mut [u16],
+    list: &mut [u16],
+    out: &mut [u8],
+) -> Progress
     requires { ⌜ Fit card (areas (now tracks) (now needs) (now words) (now directory) (now work) (now list)) ⌝ }
     ensures { λ r. ⌜ next (readingOf (r .card) (areas (now (tracks .exit)) (now (needs .exit)) (now (words .exit)) (now (directory .exit)) (now (work .exit)) (now (list .exit)))) (take (r .wrote) (now (out .exit))) ≡ fed (readingOf card (areas (now (tracks .entry)) (now (needs .entry)) (now (words .entry)) (now (directory .entry)) (now (work .entry)) (now (list .entry)))) (now (bytes .entry)) (r .used / 11) ⌝ }
     ensures { λ r. ⌜ (r .used / 11 * 11 ≡ r .used) × (r .used ≤ length (now (bytes .entry))) × (r .wrote ≤ length (now (out .exit))) ⌝ }
@@ -425,12 +571,26 @@ pub fn run(card: Card, bytes: &[u8], tracks: &mut [u16], needs: &mut [u16], word
     let mut used: usize = 0;
     let mut wrote: usize = 0;
     while goes_on(now, bytes.len() - used, out.len() - wrote) {
-        let step = read(now, &bytes[used..used + 11], tracks, needs, words, directory, work, list, &mut out[wrote..]);
+        let step = read(
+            now,
+            &bytes[used..used + 11],
+            tracks,
+            needs,
+            words,
+            directory,
+            work,
+            list,
+            &mut out[wrote..],
+        );
         now = step.card;
         used += 11;
         wrote += step.wrote;
     }
-    Progress { card: now, used, wrote }
+    Progress {
+        card: now,
+        used,
+        wrote,
+    }
 }
 
 // ---- the end

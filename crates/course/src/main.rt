@@ -5,7 +5,8 @@ use libc::STDIN_FILENO;
 use libc::STDOUT_FILENO;
 ghost use Prim.Native.Nat.{_+_, _≤_, _<_};
 ghost use mathlib.Core.Path.{_≡_};
-ghost use mathlib.Core.Bool.{true};
+ghost use mathlib.Core.Bool.{true, _&&_};
+ghost use lib.Dec.{leb};
 ghost use lib.ListN.{length};
 ghost use Rattle.card.specs.Card.{reads};
 ghost use Rattle.card.specs.Held.{areas, Fit};
@@ -22,6 +23,16 @@ struct Answered {
     card: Card,
     used: usize,
     written: bool,
+}
+
+// Whether another line is to be read: what was printed could be written, a whole line is left, and the card reads on.
+fn goes_on(written: bool, left: usize, card: Card) -> bool
+    ensures { λ r. ⌜ r ≡ (written && leb 11 left && reads (card .phase)) ⌝ }
+{
+    if !written || left < 11 {
+        return false;
+    }
+    card::is_reading(card)
 }
 
 // Reads line after line, and writes the answers whenever the output area is full or the lines are at an end.
@@ -45,7 +56,7 @@ fn answer(
     let mut now = card;
     let mut used: usize = 0;
     let mut written = true;
-    while written && used + 11 <= bytes.len() && card::is_reading(now) {
+    while goes_on(written, bytes.len() - used, now) {
         let run = card::run(
             now,
             &bytes[used..],
@@ -71,13 +82,45 @@ fn answer(
 
 // Moves the bytes from one place up to another to the front.
 fn keep(bytes: &mut [u8], from: usize, end: usize)
-    requires { ⌜ end ≤ length (now bytes) ⌝ }
+    requires { ⌜ (from ≤ end) × (end ≤ length (now bytes)) ⌝ }
 {
     let mut i: usize = 0;
     while from + i < end {
         bytes[i] = bytes[from + i];
         i += 1;
     }
+}
+
+// What a read brought: whether it went well, and up to where the bytes are filled.
+struct Filled {
+    well: bool,
+    end: usize,
+}
+
+// One read, behind the bytes that are there.
+fn fill(bytes: &mut [u8], have: usize) -> Filled
+    requires { ⌜ have ≤ length (now bytes) ⌝ }
+    ensures { λ r. ⌜ (have ≤ r .end) × (r .end ≤ length (now (bytes .exit))) ⌝ }
+{
+    let got = libc::read(STDIN_FILENO, &mut bytes[have..]);
+    if got < 0 {
+        return Filled {
+            well: false,
+            end: have,
+        };
+    }
+    Filled {
+        well: true,
+        end: have + io::count(got, &bytes[have..]),
+    }
+}
+
+// The end of the file.
+fn finish(card: Card, rest: &[u8], out: &mut [u8])
+    requires { ⌜ (card .lines ≤ 65536) × (length (now rest) < 11) × (20 ≤ length (now out)) ⌝ }
+{
+    let wrote = card::finish(card, rest, out);
+    io::write_all(STDOUT_FILENO, &out[..wrote]);
 }
 
 // One read, and everything that it brings. A read or a write that fails ends the program without another word: what follows is not known
@@ -100,24 +143,23 @@ fn turn(
 {
     let have = feeding.have;
     let card = feeding.card;
-    let got = libc::read(STDIN_FILENO, &mut bytes[have..]);
-    if got < 0 {
+    let filled = fill(bytes, have);
+    let end = filled.end;
+    if !filled.well {
         return Feeding {
             card,
             have,
             more: false,
         };
     }
-    if got == 0 {
-        let wrote = card::finish(card, &bytes[..have], out);
-        io::write_all(STDOUT_FILENO, &out[..wrote]);
+    if end == have {
+        finish(card, &bytes[..have], out);
         return Feeding {
             card,
             have,
             more: false,
         };
     }
-    let end = have + io::count(got, &bytes[have..]);
     let answered = answer(
         card,
         &bytes[..end],
@@ -131,8 +173,7 @@ fn turn(
     );
     let used = answered.used;
     let next = answered.card;
-    let more = answered.written && card::is_reading(next);
-    if !more {
+    if !goes_on(answered.written, 11, next) {
         return Feeding {
             card: next,
             have: 0,
@@ -143,8 +184,16 @@ fn turn(
     Feeding {
         card: next,
         have: end - used,
-        more,
+        more: true,
     }
+}
+
+// One turn fewer, and none where nothing more is to be read.
+fn turns_left(turns: u32, more: bool) -> u32
+    requires { ⌜ 0 < turns ⌝ }
+    ensures { λ r. ⌜ r < turns ⌝ }
+{
+    if more { turns - 1 } else { 0 }
 }
 
 // A card stops after 65,536 lines of eleven bytes at most, and every turn but the last reads one byte at least.
@@ -168,7 +217,7 @@ fn serve(
         more: true,
     };
     let mut turns: u32 = 720_897;
-    while 0 < turns && feeding.more {
+    while 0 < turns {
         feeding = turn(
             feeding,
             bytes,
@@ -180,7 +229,7 @@ fn serve(
             list,
             out,
         );
-        turns -= 1;
+        turns = turns_left(turns, feeding.more);
     }
 }
 

@@ -68,7 +68,7 @@ module _ (x : Index) (j : Judged) (e : j ≡ judged x) (u : ℕ) where
     pub asked-unit : UnitOf (x .tracks) u
     asked-unit =
         let r = within-is 1 (x .head .n) u (unless-fine (within 1 (x .head .n) u) (BadArgument 1)
-            (then-fine (unless (eqb (j .fault) 0) NotWhole) (unless (within 1 (x .head .n) u) (BadArgument 1)) fine .1)) in
+        (then-fine (unless (eqb (j .fault) 0) NotWhole) (unless (within 1 (x .head .n) u) (BadArgument 1)) fine .1)) in
         record { from = r .0; to = omega (arith, whole-is x asked-whole .tracks-long) }
 
 -- the index as its parts are lent

@@ -123,7 +123,7 @@ slice-aggregate-question-frame-3 c = sym (length-take-le _ _ (directory-there (c
 question-frame-requires : tie.Need-question-frame-requires
 question-frame-requires c κs =
     let s = c .before .before .before .before .before .before .before .before .before .before .before .before .before .before in
-    (ready (s .pre .0) (c .before .before .before .before .before .enum-told4 .given .1), (s .pre .0 .room .list-room, s .pre .1))
+    (ready (s .pre .0) (c .before .before .before .before .before .enum-told4 .given .1), (s .pre .0 .room .areas-room .list-room, s .pre .1))
 
 enum-told-5 : tie.Need-enum-told-5
 enum-told-5 c = search needs

@@ -1,6 +1,6 @@
 -- `card::list_answer`: the unit, and then the list that the kind asks for; it finds room, since it has at most 1,024 units.
 -- Assumes nothing.
-use mathlib.Core.Path.{sym, _∙_}
+use mathlib.Core.Path.{sym}
 use mathlib.Core.Logic.{⊎-elim, inl, inr}
 use native.Mathlib.Omega.{arith}
 use lib.ListN.{length}

@@ -1,6 +1,6 @@
 -- `card::question_frame`: a frame that is no question is out of order; else the answer to its kind is printed, and the card stays as it is.
 -- Assumes nothing.
-use mathlib.Core.Path.{_≡_, refl, sym, _∙_}
+use mathlib.Core.Path.{refl, sym, _∙_}
 use native.Mathlib.Omega.{arith}
 use borrow.Author.Tests.{not-true, not-false}
 use Rattle.frames.specs.Printed.{pairLine, numberLine}

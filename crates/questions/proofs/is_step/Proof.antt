@@ -60,9 +60,10 @@ is-step-requires c κs =
     let j = a .before .before .before .judge in
     let fine = sym (a .unit-verdict .ensures) ∙ c .before .before .before .before .before .before .enum-told .given .1 in
     let from : 1 ≤ v a = omega (arith, c .before .before .before .before .before .if1 .left) in
-    let to : v a ≤ x a .head .n = ltb-false _ _ (c .before .before .before .if2 .left) in
-    (asked-sure (x a) (j .result) (j .ensures) (u a) fine,
-      (asked-unit (x a) (j .result) (j .ensures) (u a) fine, second-unit (x a) (j .result) (j .ensures) (u a) fine (v a) from to))
+    let to : v a ≤ x a .head .n = ltb-false _ _ (c .before .before .before .if2 .left) in (
+      asked-sure (x a) (j .result) (j .ensures) (u a) fine,
+      (asked-unit (x a) (j .result) (j .ensures) (u a) fine, second-unit (x a) (j .result) (j .ensures) (u a) fine (v a) from to),
+    )
 
 returns-3 : tie.Need-returns-3
 returns-3 c =

@@ -15,7 +15,7 @@ returns-2 c =
     let a = c .before .before .args in
     rw (eq-eqb (a .fault) 0 (c .before .if1 .left))
     (⊎-elim (λ w. rw (not-within 1 (a .n) (a .u) (inl (omega arith))))
-      (λ w. rw (not-within 1 (a .n) (a .u) (inr (ltb-true (a .n) (a .u) (w .1 .taken))))) (c .if2 .came))
+    (λ w. rw (not-within 1 (a .n) (a .u) (inr (ltb-true (a .n) (a .u) (w .1 .taken))))) (c .if2 .came))
 
 returns-3 : tie.Need-returns-3
 returns-3 c =
