@@ -1,7 +1,7 @@
 -- A file taken by pieces of eleven bytes prints the same as one taken line by line: a frame is a line of eleven bytes, and any other line
 -- stops the reading in both.
 -- Assumes nothing.
-use Prim.Native.Nat.{ℕ, zero, suc, _+_, _*_, _≤_, _<_}
+use Prim.Native.Nat.{ℕ, zero, suc, _+_, _-_, _*_, _≤_, _<_, min}
 use mathlib.Core.Path.{_≡_, refl, sym, ap, _∙_}
 use mathlib.Core.Bool.{true, false, cond}
 use mathlib.Core.List.{List, [], _∷_, _++_, append-assoc, append-nil}
@@ -9,7 +9,7 @@ use mathlib.Core.Logic.{_⊎_, inl, inr}
 use native.Mathlib.Omega.{arith}
 use native.Mathlib.Nat.{add-suc, add-zero}
 use lib.ListN.{length, getD, take, drop, length-take, length-drop}
-use lib.Seq.{take-all, drop-drop, getD-take}
+use lib.Seq.{take-all, drop-drop, getD-take, getD-drop, ext-getD}
 use lib.Dec.{eqb}
 use borrow.Author.Tests.{ne-eqb}
 use Rattle.rules.proofs.Ranges.{true-or-false}
@@ -202,6 +202,26 @@ fed-prints r bytes (suc m) h =
     fed-prints r bytes m (omega arith)
     ∙ rw (e, ← drop-drop 11 (11 * m) bytes, append-assoc)
     (ap (λ (l : List ℕ). fed r bytes m .printed ++ l) (piece-prints (fed r bytes m .reading) (drop (11 * m) bytes) (omega (arith, length-drop (11 * m) bytes))))
+
+-- a piece of a part from the front is that piece of the whole
+piece-part : (l : List ℕ) (n a : ℕ) → a + 11 ≤ n → take 11 (drop a (take n l)) ≡ take 11 (drop a l)
+piece-part l n a h =
+    ext-getD 0 (take 11 (drop a (take n l))) (take 11 (drop a l)) (simp (length-take, length-drop) (omega arith))
+    (λ i q. at-each i (let b : i < min 11 (min n (length l) - a) = simp (length-take, length-drop) at q in omega arith))
+  where
+    at-each : (i : ℕ) → i < 11 → getD (take 11 (drop a (take n l))) i 0 ≡ getD (take 11 (drop a l)) i 0
+    at-each i b =
+        getD-take 11 (drop a (take n l)) i 0 b
+        ∙ getD-drop a (take n l) i 0
+        ∙ getD-take n l (a + i) 0 (omega arith)
+        ∙ sym (getD-take 11 (drop a l) i 0 b ∙ getD-drop a l i 0)
+
+-- so what a file brings does not depend on the blocks in which it is read
+pub fed-part : (r : Reading) (bytes : List ℕ) (n m : ℕ) → 11 * m ≤ n → fed r (take n bytes) m ≡ fed r bytes m
+unfolding fed
+fed-part r bytes n zero h = refl
+fed-part r bytes n (suc m) h =
+    rw (fed-part r bytes n m (omega arith), piece-part bytes n (11 * m) (omega arith))
 
 -- m pieces and then m′ from the rest
 pub fed-add : (r : Reading) (bytes : List ℕ) (m m′ : ℕ) →
