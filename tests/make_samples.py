@@ -48,6 +48,7 @@ FILES = {
     "calibration": course(4, 2, [0, 0, 1, 0], [(2, 1), (4, 2)], [("10", 4, 2), ("10", 4, 3), ("12", 4, 0), ("12", 3, 0)]),
     "single": course(1, 1, [0], [], [("10", 1, 1), ("12", 1, 0), ("16", 1, 0), ("17", 1, 0)]),
     "refusal-01-head": frames(("01", 1025, 1)),
+    "refusal-01-tracks": frames(("01", 40, 33)),
     "refusal-01-needs": course(200, 1, [0] * 200, [(u, v) for u in range(2, 200) for v in range(1, u)][:8193]),
     "refusal-02": course(3, 2, [0, 2, 1], [(2, 1)]),
     "refusal-03": course(3, 3, [0, 0, 2], [(2, 1)]),
