@@ -7,16 +7,16 @@ use mathlib.Core.List.{List}
 use native.Mathlib.Omega.{arith}
 use native.Mathlib.Decide.{ℕ-discrete}
 use lib.Dec.{leb, ltb}
-use borrow.Author.Tests.{lt-ltb, le-leb, ltb-true, leb-true}
-use Rattle.rules.specs.Ranges.{sum}
-use Rattle.rules.specs.Layout.{offset, wordCount}
+use borrow.Author.Tests.{lt-ltb, le-leb, ltb-true, leb-true, eq-eqb, ne-eqb}
+use Rattle.rules.specs.Ranges.{sum, bit1}
+use Rattle.rules.specs.Layout.{vectorBits, offset, wordCount}
 use Rattle.rules.specs.Bits.{rank, placeOfOne, placeOfZero}
 use Rattle.rules.specs.Index.{vectorOf, lowAt, highAt}
-use Rattle.rules.proofs.Ranges.{sum-term}
+use Rattle.rules.proofs.Ranges.{sum-none, sum-term}
 use Rattle.rules.proofs.Verdicts.{same-test}
 use Rattle.rules.proofs.Places.{one-place-low, zero-place-low, places-by-rank, places-by-rank-back}
-use Rattle.rules.proofs.Layouts.{vector-other, room-holds, offset-within, words-hold, words-most}
-use Rattle.rules.proofs.Wholes.{low-at-own, high-at-own, low-at-other, high-at-other, vector-le, vector-rank}
+use Rattle.rules.proofs.Layouts.{onesIn, vector-own, vector-other, room-holds, offset-within, words-hold, words-most}
+use Rattle.rules.proofs.Wholes.{low-at-own, high-at-own, low-at-other, high-at-other, vector-le, vector-rank, vectorOnes, rank-at}
 use Rattle.words.specs.Words.{TrueAt, Covers}
 use Rattle.bounds.specs.Known.{Known, Standing}
 
@@ -42,7 +42,21 @@ module _ {s : ℕ → ℕ} {k : ℕ} {words directory row : List ℕ} (known : K
     true-there = known .true-there j h;
   }
 
+  -- each vector has the ones that it should
+  each-ones : (p q : ℕ) → p < k → q < k → vectorOnes s k words p q ≡ onesIn s p q
+  each-ones p q l h = go (ℕ-discrete p q)
+    where
+      go : Dec (p ≡ q) → vectorOnes s k words p q ≡ onesIn s p q
+      go (yes e) =
+          let none : vectorBits s p q ≡ 0 = rw (sym e) (vector-own s p) in
+          rw (eq-eqb p q e, none) (sum-none (vectorOf s k words p q))
+      go (no n) = rw (ne-eqb p q n) (known .ones p q l h n)
+
   module _ {p q : ℕ} (v : Vector k p q) where
+    -- the ones before it are known without a look at the words
+    pub vector-before : rank words (offset s k p q) ≡ (k - 1) * sum s p + (q - bit1 (ltb p q)) * s p
+    vector-before = rank-at s k words each-ones p q (v .here) (omega (arith, v .there))
+
     pub vector-within : offset s k p q + (s p + s q) ≤ 64 * wordCount s k
     vector-within =
         omega (arith, vector-other s p q (v .other), room-holds s p q, offset-within s k p q (v .here) (v .there), words-hold s k)

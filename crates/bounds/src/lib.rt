@@ -24,7 +24,7 @@ pub fn spot(tracks: &[u16], u: u16) -> Place
 {
     let last = u as usize - 1;
     let p = tracks[last];
-    let mut at: usize = 0;
+    let mut at: u16 = 0;
     let mut i: usize = 0;
     while i <= last {
         if tracks[i] == p {
@@ -34,7 +34,7 @@ pub fn spot(tracks: &[u16], u: u16) -> Place
     }
     Place {
         track: p as usize,
-        at,
+        at: at as usize,
     }
 }
 
@@ -45,27 +45,12 @@ fn wide(number: u16) -> usize
     number as usize
 }
 
-// The first bit of a row as a usize.
-fn row_start(bit: u32) -> usize
-    ensures { λ r. ⌜ (r ≡ bit) × (r < 4294967296) ⌝ }
-{
-    bit as usize
-}
-
-// The first bit of vector p,q among k tracks.
-fn vector_start(lens: &[u16; 32], row: &[u32; 33], k: usize, p: usize, q: usize) -> usize
-    requires { ⌜ (k ≤ 32) × (p < k) × (q < k) × (now row ≡ rowStarts (lensOf (now lens)) k) ⌝ }
-    ensures { λ r. ⌜ r ≡ offset (lensOf (now (lens .entry))) k p q ⌝ }
-{
-    row_start(row[p]) + layout::row_room(lens, p, q)
-}
-
 // Position i of track p needs position j of track q.
 pub fn reaches(
     words: &[u64],
     directory: &[u16],
     lens: &[u16; 32],
-    row: &[u32; 33],
+    row: &[u32; 66],
     k: usize,
     p: usize,
     i: usize,
@@ -80,9 +65,9 @@ pub fn reaches(
     if p == q {
         return j < i;
     }
-    let off = vector_start(lens, row, k, p, q);
-    words::ones_before(words, directory, off + i + j - 1)
-        < words::ones_before(words, directory, off) + i
+    let off = layout::vector_start(lens, row, k, p, q);
+    let before = layout::vector_ones(lens, row, k, p, q);
+    words::ones_before(words, directory, off + i + j - 1) < before + i
 }
 
 // low of position i of track p, in track q.
@@ -90,7 +75,7 @@ pub fn low_at(
     words: &[u64],
     directory: &[u16],
     lens: &[u16; 32],
-    row: &[u32; 33],
+    row: &[u32; 66],
     k: usize,
     p: usize,
     i: usize,
@@ -104,8 +89,8 @@ pub fn low_at(
     if p == q {
         return i - 1;
     }
-    let off = vector_start(lens, row, k, p, q);
-    let before = words::ones_before(words, directory, off);
+    let off = layout::vector_start(lens, row, k, p, q);
+    let before = layout::vector_ones(lens, row, k, p, q);
     let bits = wide(lens[p]) + wide(lens[q]);
     words::place_of_one(words, directory, off, bits, before, i) - i
 }
@@ -115,7 +100,7 @@ pub fn high_at(
     words: &[u64],
     directory: &[u16],
     lens: &[u16; 32],
-    row: &[u32; 33],
+    row: &[u32; 66],
     k: usize,
     p: usize,
     i: usize,
@@ -129,8 +114,8 @@ pub fn high_at(
     if p == q {
         return i + 1;
     }
-    let off = vector_start(lens, row, k, q, p);
-    let before = words::ones_before(words, directory, off);
+    let off = layout::vector_start(lens, row, k, q, p);
+    let before = layout::vector_ones(lens, row, k, q, p);
     let bits = wide(lens[q]) + wide(lens[p]);
     words::place_of_zero(words, directory, off, bits, before, i) - i + 1
 }
@@ -140,7 +125,7 @@ pub fn lows(
     words: &[u64],
     directory: &[u16],
     lens: &[u16; 32],
-    row: &[u32; 33],
+    row: &[u32; 66],
     k: usize,
     p: usize,
     i: usize,
@@ -163,7 +148,7 @@ pub fn highs(
     words: &[u64],
     directory: &[u16],
     lens: &[u16; 32],
-    row: &[u32; 33],
+    row: &[u32; 66],
     k: usize,
     p: usize,
     i: usize,
@@ -186,7 +171,7 @@ pub fn none_reaches(
     words: &[u64],
     directory: &[u16],
     lens: &[u16; 32],
-    row: &[u32; 33],
+    row: &[u32; 66],
     k: usize,
     at: &[u16; 32],
     q: usize,
@@ -208,12 +193,40 @@ pub fn none_reaches(
     true
 }
 
+// The same of the units at the lows of position i of track p: a low is looked up only as long as none before it has settled the question.
+pub fn none_between(
+    words: &[u64],
+    directory: &[u16],
+    lens: &[u16; 32],
+    row: &[u32; 66],
+    k: usize,
+    p: usize,
+    i: usize,
+    q: usize,
+    j: usize,
+) -> bool
+    requires { ⌜ Known (lensOf (now lens)) k (now words) (now directory) (now row) ⌝ }
+    requires { ⌜ Standing (lensOf (now lens)) k p i ⌝ }
+    requires { ⌜ Standing (lensOf (now lens)) k q j ⌝ }
+    ensures { λ r. ⌜ r ≡ noneReaches (lensOf (now (lens .entry))) k (now (words .entry)) (table (λ t. cond (ltb t k) (lowAt (lensOf (now (lens .entry))) k (now (words .entry)) p i t) 0) 32) q j ⌝ }
+{
+    let mut t: usize = 0;
+    while t < k {
+        let at = low_at(words, directory, lens, row, k, p, i, t);
+        if at != 0 && reaches(words, directory, lens, row, k, t, at, q, j) {
+            return false;
+        }
+        t += 1;
+    }
+    true
+}
+
 // Position i of track p needs none of the units at these positions, one in each track. A position past the end is no unit.
 pub fn reaches_none(
     words: &[u64],
     directory: &[u16],
     lens: &[u16; 32],
-    row: &[u32; 33],
+    row: &[u32; 66],
     k: usize,
     p: usize,
     i: usize,

@@ -64,7 +64,7 @@ fn fill_words(
     needs: &[u16],
     work: &[u16],
     lens: &[u16; 32],
-    row: &[u32; 33],
+    row: &[u32; 66],
     k: usize,
 )
     requires { ⌜ Given (listing (length (now tracks)) k (now tracks) (now needs)) (now lens) (now work) ⌝ }
@@ -89,7 +89,7 @@ fn fill_index(
     needs: &[u16],
     work: &[u16],
     lens: &[u16; 32],
-    row: &[u32; 33],
+    row: &[u32; 66],
     k: usize,
 )
     requires { ⌜ Given (listing (length (now tracks)) k (now tracks) (now needs)) (now lens) (now work) ⌝ }

@@ -61,7 +61,7 @@ freshCard =
       pairs = 0;
       count = 0;
       lens = replicate 32 0;
-      row = replicate 33 0;
+      row = replicate 66 0;
     }
 
 -- the card with another phase

@@ -44,7 +44,7 @@ pub struct Card {
     pub pairs: usize,
     pub count: usize,
     pub lens: [u16; 32],
-    pub row: [u32; 33],
+    pub row: [u32; 66],
 }
 
 // A card after a line, and how many bytes were printed for it.
@@ -66,7 +66,7 @@ pub fn start() -> Card
         pairs: 0,
         count: 0,
         lens: [0u16; 32],
-        row: [0u32; 33],
+        row: [0u32; 66],
     }
 }
 

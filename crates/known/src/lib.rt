@@ -24,7 +24,7 @@ fn steps_at(
     words: &[u64],
     directory: &[u16],
     lens: &[u16; 32],
-    row: &[u32; 33],
+    row: &[u32; 66],
     k: usize,
     at: &[u16; 32],
 ) -> Spans
@@ -51,7 +51,7 @@ fn steps_up_at(
     words: &[u64],
     directory: &[u16],
     lens: &[u16; 32],
-    row: &[u32; 33],
+    row: &[u32; 66],
     k: usize,
     at: &[u16; 32],
 ) -> Spans
@@ -81,7 +81,7 @@ pub fn needs(
     words: &[u64],
     directory: &[u16],
     lens: &[u16; 32],
-    row: &[u32; 33],
+    row: &[u32; 66],
     k: usize,
     u: u16,
     v: u16,
@@ -102,7 +102,7 @@ pub fn is_step(
     words: &[u64],
     directory: &[u16],
     lens: &[u16; 32],
-    row: &[u32; 33],
+    row: &[u32; 66],
     k: usize,
     u: u16,
     v: u16,
@@ -117,8 +117,7 @@ pub fn is_step(
     if !bounds::reaches(words, directory, lens, row, k, a.track, a.at, b.track, b.at) {
         return false;
     }
-    let at = bounds::lows(words, directory, lens, row, k, a.track, a.at);
-    bounds::none_reaches(words, directory, lens, row, k, &at, b.track, b.at)
+    bounds::none_between(words, directory, lens, row, k, a.track, a.at, b.track, b.at)
 }
 
 // Kind 12: everything up to low in each track.
@@ -127,7 +126,7 @@ pub fn needed(
     words: &[u64],
     directory: &[u16],
     lens: &[u16; 32],
-    row: &[u32; 33],
+    row: &[u32; 66],
     k: usize,
     u: u16,
     list: &mut [u16],
@@ -149,7 +148,7 @@ pub fn needing(
     words: &[u64],
     directory: &[u16],
     lens: &[u16; 32],
-    row: &[u32; 33],
+    row: &[u32; 66],
     k: usize,
     u: u16,
     list: &mut [u16],
@@ -170,7 +169,7 @@ pub fn steps(
     words: &[u64],
     directory: &[u16],
     lens: &[u16; 32],
-    row: &[u32; 33],
+    row: &[u32; 66],
     k: usize,
     u: u16,
     list: &mut [u16],
@@ -194,7 +193,7 @@ pub fn steps_up(
     words: &[u64],
     directory: &[u16],
     lens: &[u16; 32],
-    row: &[u32; 33],
+    row: &[u32; 66],
     k: usize,
     u: u16,
     list: &mut [u16],
@@ -218,7 +217,7 @@ fn highest_step(
     words: &[u64],
     directory: &[u16],
     lens: &[u16; 32],
-    row: &[u32; 33],
+    row: &[u32; 66],
     k: usize,
     u: u16,
 ) -> u16
@@ -240,7 +239,7 @@ pub fn stage(
     words: &[u64],
     directory: &[u16],
     lens: &[u16; 32],
-    row: &[u32; 33],
+    row: &[u32; 66],
     k: usize,
     u: u16,
 ) -> u16
@@ -263,7 +262,7 @@ pub fn unit_low(
     words: &[u64],
     directory: &[u16],
     lens: &[u16; 32],
-    row: &[u32; 33],
+    row: &[u32; 66],
     k: usize,
     u: u16,
     q: u16,
@@ -284,7 +283,7 @@ pub fn unit_high(
     words: &[u64],
     directory: &[u16],
     lens: &[u16; 32],
-    row: &[u32; 33],
+    row: &[u32; 66],
     k: usize,
     u: u16,
     q: u16,

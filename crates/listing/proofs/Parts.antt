@@ -2,7 +2,7 @@
 -- the first pair with more than u.
 -- Assumes nothing.
 use Prim.Native.Nat.{ℕ, zero, suc, _+_, _-_, _*_, _≤_, _<_, min}
-use mathlib.Core.Path.{_≡_, sym, ap, _∙_}
+use mathlib.Core.Path.{_≡_, refl, sym, ap, _∙_}
 use mathlib.Core.List.{List, [], _∷_, _++_, append-nil}
 use mathlib.Core.Logic.{inl, inr}
 use native.Mathlib.Omega.{arith}
@@ -13,10 +13,19 @@ use lib.Seq.{drop-cons, drop-drop, take-add}
 use lib.Dec.{leb}
 use borrow.Author.Tests.{eq-eqb, ne-eqb, leb-true, leb-false}
 use Rattle.rules.specs.Ranges.{first}
-use Rattle.rules.specs.Listing.{pairs, upper, lower}
-use Rattle.rules.specs.Outcomes.{pairsFrom}
+use Rattle.rules.specs.Listing.{pairs, upper, lower, within, countedNeeds}
+use Rattle.rules.specs.declared.Refusal.{Refusal}
+use Rattle.rules.specs.declared.Refusal.the-variants.{OutOfLimits, BadArgument}
+use Rattle.rules.specs.declared.Verdict.{Verdict}
+use Rattle.rules.specs.declared.Verdict.the-variants.{Fine, Refused}
+use Rattle.rules.specs.Limits.{maxUnits}
+use Rattle.rules.specs.Refusals.{unless}
+use Rattle.rules.specs.Outcomes.{partVerdict, pairsFrom, partOutcome}
 use Rattle.rules.proofs.Ranges.{first-le, first-before, first-met}
-use Rattle.rules.proofs.Needs.{Below, Pairs, ascends-far}
+use Rattle.rules.proofs.Verdicts.{within-is, then-fine, unless-fine}
+use Rattle.rules.proofs.Needs.{Below, Pairs, ascends-far, pairs-fine}
+use Rattle.listing.specs.declared.Span.{Span}
+use Rattle.listing.specs.Spans.{pairFrom, partSpan}
 
 -- ---- the first units ascend
 
@@ -105,3 +114,32 @@ module _ (l : List ℕ) (rising : Rising l) where
 
       after : (i : ℕ) → from (u + 1) ≤ i → i < pairs l → u < upper l i
       after i h q = omega (arith, from-on (u + 1) i h q)
+
+-- ---- by the verdict
+
+-- the unit is one, and the pairs are in order
+pub parted : (l : List ℕ) (u : ℕ) → partVerdict l u ≡ Fine → (u ≤ 1024) × Pairs 1024 l
+unfolding partVerdict
+parted l u h =
+    let a = then-fine (unless (within 1 maxUnits u) (BadArgument 1)) _ h in
+    let b = then-fine (unless (countedNeeds l) OutOfLimits) _ (a .1) in
+    (within-is 1 maxUnits u (unless-fine _ (BadArgument 1) (a .0)) .1, pairs-fine 1024 l (b .1))
+
+-- a refused part stands at the start and holds nothing
+pub span-refused : (l : List ℕ) (u : ℕ) (r : Refusal) → partVerdict l u ≡ Refused r → record { start = 0; count = 0 } ≡ partSpan l u
+unfolding partSpan
+span-refused l u r h = rw h
+
+pub span-fine : (l : List ℕ) (u : ℕ) → partVerdict l u ≡ Fine
+    → record { start = 2 * pairFrom l u; count = 2 * pairFrom l (u + 1) - 2 * pairFrom l u } ≡ partSpan l u
+unfolding partSpan
+span-fine l u h = rw h
+
+-- what stands there is the part
+pub span-part : (l : List ℕ) (u : ℕ) → take (partSpan l u .count) (drop (partSpan l u .start) l) ≡ partOutcome l u
+unfolding partSpan partOutcome pairFrom
+span-part l u = go (partVerdict l u) refl
+  where
+    go : (v : Verdict) → partVerdict l u ≡ v → take (partSpan l u .count) (drop (partSpan l u .start) l) ≡ partOutcome l u
+    go Fine h = rw h (sym (part-piece l (pairs-rise (parted l u h .1)) u))
+    go (Refused r) h = rw h

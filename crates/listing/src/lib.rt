@@ -1,18 +1,38 @@
 // A listing checked: refusals 1 to 5 in the order of their numbers; and the part of a need list that begins with a unit.
 use rules::Refusal;
 use rules::Verdict;
-ghost use Prim.Native.Nat.{ℕ, _≤_, _<_};
+ghost use Prim.Native.Nat.{ℕ, _+_, _≤_, _<_, max};
 ghost use mathlib.Core.Path.{_≡_};
 ghost use lib.ListN.{length, getD};
 ghost use lib.Dec.{leb, eqb};
-ghost use Rattle.rules.specs.Ranges.{first, table};
+ghost use Rattle.rules.specs.Ranges.{first, greatest, table};
 ghost use Rattle.rules.specs.Listing.{listing, size, pairs, upper, countedNeeds, badUnits, badPair, unitsAbove, outOfOrder, pairsVerdict, listingVerdict};
 ghost use Rattle.rules.specs.Outcomes.{partVerdict, partOutcome};
+ghost use Rattle.listing.specs.Spans.{partSpan};
 
 // ---- the tracks
 
+fn greater(a: u16, b: u16) -> u16
+    ensures { λ r. ⌜ r ≡ max a b ⌝ }
+{
+    if a < b { b } else { a }
+}
+
+// The greatest entry, 0 where there is none.
+fn greatest_track(tracks: &[u16]) -> u16
+    ensures { λ r. ⌜ r ≡ greatest (λ i. getD (now (tracks .entry)) i 0) (length (now (tracks .entry))) ⌝ }
+{
+    let mut most: u16 = 0;
+    let mut i: usize = 0;
+    while i < tracks.len() {
+        most = greater(most, tracks[i]);
+        i += 1;
+    }
+    most
+}
+
 // The index of the first entry of k or more, or the length where there is none.
-pub fn bad_track(tracks: &[u16], k: u16) -> usize
+fn first_from_track(tracks: &[u16], k: u16) -> usize
     ensures { λ r. ⌜ r ≡ first (λ i. leb k (getD (now (tracks .entry)) i 0)) (length (now (tracks .entry))) ⌝ }
 {
     let mut i: usize = 0;
@@ -23,6 +43,16 @@ pub fn bad_track(tracks: &[u16], k: u16) -> usize
         i += 1;
     }
     i
+}
+
+// The same; where there is none, which is nearly always, one pass without a branch tells it.
+pub fn bad_track(tracks: &[u16], k: u16) -> usize
+    ensures { λ r. ⌜ r ≡ first (λ i. leb k (getD (now (tracks .entry)) i 0)) (length (now (tracks .entry))) ⌝ }
+{
+    if greatest_track(tracks) < k {
+        return tracks.len();
+    }
+    first_from_track(tracks, k)
 }
 
 // The length of each of the 32 tracks.
@@ -191,14 +221,34 @@ fn first_from(needs: &[u16], u: u16) -> usize
     a
 }
 
-// The part of the need list whose pairs begin with the unit; empty where there are none or the call above refuses.
+// Where a part of a list stands.
+pub struct Span {
+    pub start: usize,
+    pub count: usize,
+}
+
+// Where the part of the need list stands whose pairs begin with the unit.
+pub fn part_span(needs: &[u16], unit: u16) -> Span
+    ensures { λ r. ⌜ r ≡ partSpan (now (needs .entry)) unit ⌝ }
+    ensures held { λ r. ⌜ r .start + r .count ≤ length (now (needs .entry)) ⌝ }
+{
+    let Verdict::Fine = part_verdict(needs, unit) else {
+        return Span { start: 0, count: 0 };
+    };
+    let start = 2 * first_from(needs, unit);
+    let end = 2 * first_from(needs, unit + 1);
+    Span {
+        start,
+        count: end - start,
+    }
+}
+
+// The part of the need list whose pairs begin with the unit; empty where there are none or the verdict above refuses.
 pub fn part(needs: &[u16], unit: u16) -> &[u16]
     ensures { λ r. ⌜ now r ≡ partOutcome (now (needs .entry)) unit ⌝ }
 {
-    let Verdict::Fine = part_verdict(needs, unit) else {
-        return &needs[..0];
-    };
-    let a = 2 * first_from(needs, unit);
-    let e = 2 * first_from(needs, unit + 1);
-    &needs[a..e]
+    let span = part_span(needs, unit);
+    let start = span.start;
+    let end = span.start + span.count;
+    &needs[start..end]
 }

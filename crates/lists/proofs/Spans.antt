@@ -4,6 +4,7 @@ use Prim.Native.Nat.{ℕ, zero, suc, _+_, _-_, _≤_, _<_, max, min, zero-le}
 use mathlib.Core.Path.{_≡_, refl, sym, ap, _∙_}
 use mathlib.Core.Bool.{Bool, true, false, cond, _&&_}
 use mathlib.Core.List.{List}
+use mathlib.Core.Logic.{_⊎_, inl, inr}
 use native.Mathlib.Omega.{arith}
 use native.Mathlib.Numerals.{add-one}
 use native.Mathlib.Decide.{decLe, ℕ-discrete}
@@ -15,7 +16,7 @@ use Rattle.rules.specs.Ranges.{sum, bit1, greatest, over}
 use Rattle.rules.specs.Listing.{inTrack, size, within}
 use Rattle.rules.specs.Questions.{unitsWhere}
 use Rattle.rules.specs.Order.{highestStep}
-use Rattle.rules.proofs.Ranges.{sum-same, sum-zero, sum-one, greatest-next, greatest-least, greatest-same, length-over, over-none, over-next, units-none, units-yes, units-no, units-longer, units-up, units-same}
+use Rattle.rules.proofs.Ranges.{true-or-false, sum-same, sum-zero, sum-one, greatest-next, greatest-least, greatest-same, length-over, over-none, over-next, units-none, units-yes, units-no, units-longer, units-up, units-same}
 use Rattle.rules.proofs.Verdicts.{is-within, no-and, and-no}
 use Rattle.rules.proofs.Tracks.{in-none, in-le, in-own, in-other, track-next}
 use Rattle.lists.specs.Spans.{inSpans, spanned, lastSpanned, Tracks, Held}
@@ -154,6 +155,29 @@ module _ {ts seen : List ℕ} {m : ℕ} (s : Seen ts m seen) (few : getD ts m 0 
       → inSpans from to ts v ≡ within (getD from (getD ts m 0) 0) (getD to (getD ts m 0) 0) (getD seen (getD ts m 0) 0 + 1)
   spans-seen from to v e = rw (e, s .counts (getD ts m 0) few) (spans-next from to ts m)
 
+-- a count that no longer grows: no further unit is found
+pub units-full : (f : ℕ → Bool) (m n : ℕ) → m ≤ n → length (unitsWhere f n) ≤ length (unitsWhere f m) → unitsWhere f n ≡ unitsWhere f m
+units-full f m zero l h = let e : m ≡ 0 = omega arith in rw e
+units-full f m (suc n) l h = go (decLe m n) (units-full f m n)
+  where
+    one : suc n ≡ n + 1
+    one = sym (add-one n)
+
+    go : Dec (m ≤ n) → (m ≤ n → length (unitsWhere f n) ≤ length (unitsWhere f m) → unitsWhere f n ≡ unitsWhere f m) → unitsWhere f (suc n) ≡ unitsWhere f m
+    go (no g) before = let e : m ≡ suc n = omega arith in rw e
+    go (yes g) before = here (true-or-false (f (n + 1)))
+      where
+        h′ : length (unitsWhere f (n + 1)) ≤ length (unitsWhere f m)
+        h′ = rw (sym one) h
+
+        here : (f (n + 1) ≡ true) ⊎ (f (n + 1) ≡ false) → unitsWhere f (suc n) ≡ unitsWhere f m
+        here (inl t) =
+            let b : bit1 (f (n + 1)) ≡ 1 = rw t in
+            absurd (omega (arith, units-longer f n, units-up f m n (omega arith), h′))
+        here (inr t) =
+            let b : bit1 (f (n + 1)) ≡ 0 = rw t in
+            rw (one, units-no f n t) (before (omega arith) (omega (arith, units-longer f n, h′)))
+
 -- an area whose first entries are the units 1 to m in the spans, and their count
 pub record Written (from to ts area : List ℕ) (m : ℕ) (list : List ℕ) (count : ℕ) : Type 0 where
   pub list-is : list ≡ over area (unitsWhere (inSpans from to ts) m)
@@ -179,6 +203,22 @@ module _ (from to ts area : List ℕ) where
           let b : bit1 (inSpans from to ts (m + 1)) ≡ 1 = rw t in
           let c = w .count-is in
           omega (arith, units-longer (inSpans from to ts) m, units-up (inSpans from to ts) (m + 1) n (omega arith))
+
+    -- as long as the count falls short, a unit is to come
+    pub written-more : (n : ℕ) → m ≤ n → count < length (unitsWhere (inSpans from to ts) n) → m < n
+    written-more n l h = go (decLe n m)
+      where
+        go : Dec (n ≤ m) → m < n
+        go (yes g) =
+            let e : n ≡ m = omega arith in
+            absurd (omega (arith, w .count-is, ap (λ (x : ℕ). length (unitsWhere (inSpans from to ts) x)) e))
+        go (no g) = omega arith
+
+    -- and once it does not, all are written
+    pub written-all : (n : ℕ) → m ≤ n → length (unitsWhere (inSpans from to ts) n) ≤ count → list ≡ over area (unitsWhere (inSpans from to ts) n)
+    written-all n l h =
+        let c = w .count-is in
+        w .list-is ∙ ap (over area) (sym (units-full (inSpans from to ts) m n l (omega arith)))
 
     pub written-yes : count < length area → inSpans from to ts (m + 1) ≡ true → Written from to ts area (m + 1) (set list count (m + 1)) (count + 1)
     written-yes l t =

@@ -42,22 +42,22 @@ fn span_count(from: &[u16; 32], to: &[u16; 32], k: usize) -> usize
     count
 }
 
-// Writes the units in the spans, ascending.
-fn write_units(tracks: &[u16], from: &[u16; 32], to: &[u16; 32], list: &mut [u16])
+// Writes the units in the spans, ascending; the count of them tells when the last is written.
+fn write_units(tracks: &[u16], from: &[u16; 32], to: &[u16; 32], count: usize, list: &mut [u16])
     requires { ⌜ Tracks (now tracks) 32 ⌝ }
-    requires { ⌜ length (spanned (now from) (now to) (now tracks)) ≤ length (now list) ⌝ }
+    requires { ⌜ (count ≡ length (spanned (now from) (now to) (now tracks))) × (count ≤ length (now list)) ⌝ }
     ensures { λ _. ⌜ now (list .exit) ≡ over (now (list .entry)) (spanned (now (from .entry)) (now (to .entry)) (now (tracks .entry))) ⌝ }
 {
     let mut seen = [0u16; 32];
-    let mut count: usize = 0;
+    let mut done: usize = 0;
     let mut i: usize = 0;
-    while i < tracks.len() {
+    while done < count {
         let q = tracks[i] as usize;
         let at = seen[q] + 1;
         seen[q] = at;
         if in_span(from[q], to[q], at) {
-            list[count] = i as u16 + 1;
-            count += 1;
+            list[done] = i as u16 + 1;
+            done += 1;
         }
         i += 1;
     }
@@ -80,7 +80,7 @@ pub fn answer_list(
     if list.len() < place || list.len() - place < count {
         return NumberAnswer::Refused(Refusal::ShortList(count as u32));
     }
-    write_units(tracks, from, to, &mut list[place..]);
+    write_units(tracks, from, to, count, &mut list[place..]);
     NumberAnswer::Number(count as u16)
 }
 

@@ -71,12 +71,9 @@ abbrev pub joined : List ℕ → ℕ → ℕ → ℕ → ℕ
 joined area at from q = max (getD area (at + q) 0) (getD area (from + q) 0)
 
 module _ {area area′ : List ℕ} {at q : ℕ} (from : ℕ) (r : RowIs area area′ at q (joined area at from)) (before : from + q < at) where
-  pub join-write : at + q < length area′ → getD area′ (at + q) 0 < getD area′ (from + q) 0
-      → RowIs area (set area′ (at + q) (getD area′ (from + q) 0)) at (q + 1) (joined area at from)
-  join-write l h = row-write r _ l (omega (arith, r .kept (from + q) (inl before), r .kept (at + q) (inr (omega arith))))
-
-  pub join-leave : getD area′ (from + q) 0 ≤ getD area′ (at + q) 0 → RowIs area area′ at (q + 1) (joined area at from)
-  join-leave h = row-leave r (omega (arith, r .kept (from + q) (inl before), r .kept (at + q) (inr (omega arith))))
+  pub join-write : (v : ℕ) → at + q < length area′ → v ≡ max (getD area′ (at + q) 0) (getD area′ (from + q) 0)
+      → RowIs area (set area′ (at + q) v) at (q + 1) (joined area at from)
+  join-write v l h = row-write r v l (omega (arith, r .kept (from + q) (inl before), r .kept (at + q) (inr (omega arith))))
 
 -- ---- whole rows
 

@@ -11,17 +11,22 @@ ghost use Rattle.rules.proofs.Needs.{Pairs};
 ghost use Rattle.rules.proofs.Bounds.{reach};
 ghost use Rattle.rows.specs.Rows.{RowIs, brings, pairsTo};
 
-// Row `to` becomes the greater of itself and row `from`, entry by entry.
+fn greater(a: u16, b: u16) -> u16
+    ensures { λ r. ⌜ r ≡ max a b ⌝ }
+{
+    if a < b { b } else { a }
+}
+
+// Row `to` becomes the greater of itself and row `from`, entry by entry; each entry is stored, so that no branch hangs on it.
 fn join_row(work: &mut [u16], to: usize, from: usize, k: usize)
     requires { ⌜ (to + k ≤ length (now work)) × (from + k ≤ to) ⌝ }
     ensures { λ _. ⌜ RowIs (now (work .entry)) (now (work .exit)) to k (λ q. max (getD (now (work .entry)) (to + q) 0) (getD (now (work .entry)) (from + q) 0)) ⌝ }
 {
     let mut q: usize = 0;
     while q < k {
+        let here = work[to + q];
         let far = work[from + q];
-        if work[to + q] < far {
-            work[to + q] = far;
-        }
+        work[to + q] = greater(here, far);
         q += 1;
     }
 }

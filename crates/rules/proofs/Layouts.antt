@@ -1,5 +1,5 @@
 -- Where each vector stands: a vector starts where the room before it ends, so no two rooms meet and each bit has one home; and the bits and words in all.
--- All of it is read off the sums of the layout. Only room-holds, room-is, room-meant and room-same know what a room is.
+-- All of it is read off the sums of the layout. Only room-holds, room-is, room-meant, room-all and room-same know what a room is.
 -- Assumes nothing.
 use Prim.Native.Nat.{ℕ, zero, suc, _+_, _-_, _*_, _≤_, _<_}
 use mathlib.Core.Path.{_≡_, refl, sym, ap}
@@ -175,6 +175,17 @@ module _ (s : ℕ → ℕ) where
   row-bits k p l =
       let r = rw (lt-ltb p k l) at (sum-without (λ q. s p + s q) p k) in
       omega (arith, r, sum-plus (λ q. s p) s k, sum-const (s p) k)
+
+  -- the room of the vectors p,q′ before p,q: there is no vector p,p
+  room-all : (p q : ℕ) → sum (vectorRoom s p) q + bit1 (ltb p q) * (s p + s p) ≡ q * s p + sum s q
+  unfolding vectorRoom vectorBits
+  room-all p q = omega (arith, sum-without (λ q. s p + s q) p q, sum-plus (λ q. s p) s q, sum-const (s p) q)
+
+  pub room-past : (p q : ℕ) → p < q → sum (vectorRoom s p) q + 2 * s p ≡ q * s p + sum s q
+  room-past p q l = let r = rw (lt-ltb p q l) at (room-all p q) in omega (arith, r)
+
+  pub room-before : (p q : ℕ) → q ≤ p → sum (vectorRoom s p) q ≡ q * s p + sum s q
+  room-before p q l = let r = rw (le-ltb p q l) at (room-all p q) in omega (arith, r)
 
   -- every unit counted 2 * k times is counted twice too often: there is no vector p,p
   rows-bits : (k : ℕ) → meantBits s k + 2 * sum s k ≡ 2 * (k * sum s k)

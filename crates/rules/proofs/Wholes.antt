@@ -1,27 +1,28 @@
 -- A whole index, built or not: the seven conditions as facts, low and high at each position, and kinds 10 to 15 by the few units that can answer.
 -- The 1s of vector p,q are the positions of p and its 0s those of q, so each low of p in q is a high of q in p read the other way; the rest
 -- is the order of numbers. Assumes nothing.
-use Prim.Native.Nat.{ℕ, suc, _+_, _-_, _*_, _≤_, _<_}
+use Prim.Native.Nat.{ℕ, zero, suc, _+_, _-_, _*_, _≤_, _<_}
 use mathlib.Core.Path.{_≡_, refl, sym, ap, _∙_}
 use mathlib.Core.Bool.{Bool, true, false, cond, not, _&&_}
 use mathlib.Core.List.{List, _∷_}
 use native.Mathlib.Omega.{arith}
+use native.Mathlib.Numerals.{add-one}
 use native.Mathlib.Decide.{decLt, ℕ-discrete}
 use lib.ListN.{length, getD}
 use lib.Dec.{leb, ltb, eqb}
 use borrow.Author.Tests.{lt-ltb, le-ltb, ltb-true, le-leb, lt-leb, leb-true, eq-eqb, ne-eqb, eqb-true}
-use Rattle.rules.specs.Ranges.{sum, every}
+use Rattle.rules.specs.Ranges.{sum, bit1, every}
 use Rattle.rules.specs.Limits.{maxUnits, maxTracks}
 use Rattle.rules.specs.Listing.{track, size, position, within}
 use Rattle.rules.specs.Layout.{vectorBits, offset, roomBits, wordCount}
 use Rattle.rules.specs.Bits.{bit, onesBefore, rank, placeOfOne, placeOfZero}
 use Rattle.rules.specs.Index.{Index, sizes, vectorOf, vector, lowAt, highAt, lowIn, highIn, inRange, tracksFit, lengthsTrue, areasReach, spareClear, directoryTrue, vectorsTrue, conditions, firstFailing, fault, whole}
 use Rattle.rules.specs.Questions.{kind10By, kind11By, kind10, kind11}
-use Rattle.rules.proofs.Ranges.{sum-none, sum-same, every-all, every-one, every-same}
+use Rattle.rules.proofs.Ranges.{sum-none, sum-suc, sum-same, every-all, every-one, every-same}
 use Rattle.rules.proofs.Verdicts.{and-both, both-and, and-no, same-test, within-is, is-within}
-use Rattle.rules.proofs.Bits.{bit-le, rank-add}
+use Rattle.rules.proofs.Bits.{bit-le, rank-le, rank-add}
 use Rattle.rules.proofs.Places.{one-place-low, zero-place-low, one-place-rises, places-cross, places-cross-back, places-by-rank, places-by-rank-back}
-use Rattle.rules.proofs.Layouts.{vector-own, vector-other}
+use Rattle.rules.proofs.Layouts.{offset-start, offset-next, offset-row, vector-own, vector-other, room-is, onesIn, ones-to}
 use Rattle.rules.proofs.Tracks.{position-pos, position-size, sizes-all, UnitAt, unit-found}
 
 -- ---- the seven conditions as facts
@@ -185,6 +186,47 @@ module _ (s : ℕ → ℕ) (k : ℕ) (ws : List ℕ) (p q : ℕ) where
   pub vector-rank : (y : ℕ) → rank ws (offset s k p q + y) ≡ rank ws (offset s k p q) + sum (vectorOf s k ws p q) y
   unfolding vectorOf
   vector-rank y = rank-add ws (offset s k p q) y
+
+-- ---- the ones before a vector, where each vector p,q has as many as p has units
+
+module _ (s : ℕ → ℕ) (k : ℕ) (ws : List ℕ) where
+  -- the ones of vector p,q
+  abbrev pub vectorOnes : ℕ → ℕ → ℕ
+  vectorOnes p q = sum (vectorOf s k ws p q) (vectorBits s p q)
+
+  -- the ones up to the end of a vector are those up to its start, and its own
+  pub rank-vector : (p q : ℕ) → rank ws (offset s k p (q + 1)) ≡ rank ws (offset s k p q) + vectorOnes p q
+  rank-vector p q = rw (offset-next s k p q, room-is s p q) (vector-rank s k ws p q (vectorBits s p q))
+
+  -- along the vectors of p
+  pub rank-along : (p : ℕ) → ((q : ℕ) → q < k → vectorOnes p q ≡ onesIn s p q)
+      → (q : ℕ) → q ≤ k → rank ws (offset s k p q) ≡ rank ws (offset s k p 0) + sum (onesIn s p) q
+  rank-along p t zero h = omega (arith, sum-none (onesIn s p))
+  rank-along p t (suc q) h =
+      let e : q + 1 ≡ suc q = add-one q in
+      let f : rank ws (offset s k p (q + 1)) ≡ rank ws (offset s k p (suc q)) = ap (λ (x : ℕ). rank ws (offset s k p x)) e in
+      omega (arith, rank-vector p q, t q (omega arith), rank-along p t q (omega arith), sum-suc (onesIn s p) q)
+
+  -- down the rows
+  pub rank-down : (each : (p q : ℕ) → p < k → q < k → vectorOnes p q ≡ onesIn s p q)
+      → (p : ℕ) → p ≤ k → rank ws (offset s k p 0) ≡ sum (λ p′. sum (onesIn s p′) k) p
+  rank-down each zero l =
+      omega (arith, ap (rank ws) (offset-start s k), rank-le ws 0, sum-none (λ p′. sum (onesIn s p′) k))
+  rank-down each (suc p) l =
+      let e : p + 1 ≡ suc p = add-one p in
+      let f : rank ws (offset s k (p + 1) 0) ≡ rank ws (offset s k (suc p) 0) = ap (λ (x : ℕ). rank ws (offset s k x 0)) e in
+      omega (
+        arith,
+        ap (rank ws) (offset-row s k p),
+        rank-along p (λ q h. each p q (omega arith) h) k (omega arith),
+        rank-down each p (omega arith),
+        sum-suc (λ p′. sum (onesIn s p′) k) p,
+      )
+
+  pub rank-at : (each : (p q : ℕ) → p < k → q < k → vectorOnes p q ≡ onesIn s p q)
+      → (p q : ℕ) → p < k → q ≤ k → rank ws (offset s k p q) ≡ (k - 1) * sum s p + (q - bit1 (ltb p q)) * s p
+  rank-at each p q l h =
+      omega (arith, rank-along p (λ q h. each p q l h) q h, rank-down each p (omega arith), ones-to s k p q (omega arith))
 
 module _ (x : Index) (good : Whole x) (p q : ℕ) (row : p < x .head .k) (column : q < x .head .k) where
   -- vector p,q has a 1 for each position of p and a 0 for each position of q

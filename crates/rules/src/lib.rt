@@ -31,7 +31,8 @@ pub fn the_limits() -> Limits
     }
 }
 
-// The head of an index: the length of each track, 0 beyond the last, and the counts of units and tracks.
+// The head of an index: the length of each track, 0 beyond the last, and the counts of units and tracks. C reads it as it lies.
+#[repr(C)]
 pub struct Head {
     pub lens: [u16; 32],
     pub n: u16,

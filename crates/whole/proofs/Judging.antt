@@ -26,7 +26,7 @@ use Rattle.whole.proofs.Lengths.{lengthTrue}
 
 module _ (s : ℕ → ℕ) (k : ℕ) {number : ℕ} where
   -- a fault is judged with no first bits
-  pub judged-faulty : (found : ℕ) → number ≡ found → 1 ≤ found → judgedBy s k number ≡ record { fault = found; row = replicate 33 0 }
+  pub judged-faulty : (found : ℕ) → number ≡ found → 1 ≤ found → judgedBy s k number ≡ record { fault = found; row = replicate 66 0 }
   unfolding judgedBy
   judged-faulty found e h = rw (e, ne-eqb found 0 (λ f. omega arith))
 

@@ -15,7 +15,7 @@ use Rattle.rules.specs.Index.{vectorOf}
 use Rattle.rules.proofs.Ranges.{sum-none, sum-suc, sum-term, every-one}
 use Rattle.rules.proofs.Verdicts.{same-test}
 use Rattle.rules.proofs.Layouts.{offset-next, offset-row, offset-within, vector-own, vector-other, room-is, words-hold, words-most, onesIn, ones-in-row}
-use Rattle.rules.proofs.Wholes.{vector-rank}
+use Rattle.rules.proofs.Wholes.{vectorOnes, rank-vector, rank-along}
 use Rattle.words.specs.Words.{TrueAt}
 use Rattle.whole.specs.Judged.{Lengths, Areas}
 
@@ -62,27 +62,19 @@ module _ (s : ℕ → ℕ) (k : ℕ) (known : Lengths s k) where
 -- ---- vectors, rows, all rows
 
 module _ (s : ℕ → ℕ) (k : ℕ) (ws : List ℕ) where
-  -- the ones of vector p,q
-  abbrev pub vectorOnes : ℕ → ℕ → ℕ
-  vectorOnes p q = sum (vectorOf s k ws p q) (vectorBits s p q)
-
   -- vector p,q has as many ones as p has units
   abbrev pub vectorTrue : ℕ → ℕ → Bool
-  vectorTrue p q = eqb (vectorOnes p q) (onesIn s p q)
-
-  -- the ones up to the end of a vector are those up to its start, and its own
-  pub rank-vector : (p q : ℕ) → rank ws (offset s k p (q + 1)) ≡ rank ws (offset s k p q) + vectorOnes p q
-  rank-vector p q = rw (offset-next s k p q, room-is s p q) (vector-rank s k ws p q (vectorBits s p q))
+  vectorTrue p q = eqb (vectorOnes s k ws p q) (onesIn s p q)
 
   -- so the rank at its end tells whether a vector is true
   pub vector-test : (p q end start ones : ℕ) → Ended s k p q end → (q ≡ p → ⊥) → start ≡ offset s k p q → ones ≡ rank ws start
       → vectorTrue p q ≡ eqb (rank ws (end - 1 + 1)) (ones + s p)
   vector-test p q end start ones e n f g = same-test _ _ to from
     where
-      last : rank ws (end - 1 + 1) ≡ ones + vectorOnes p q
+      last : rank ws (end - 1 + 1) ≡ ones + vectorOnes s k ws p q
       last =
           let h : end - 1 + 1 ≡ offset s k p (q + 1) = omega (arith, e .at-end, e .some-bits) in
-          omega (arith, ap (rank ws) h, ap (rank ws) f, rank-vector p q)
+          omega (arith, ap (rank ws) h, ap (rank ws) f, rank-vector s k ws p q)
 
       meant : onesIn s p q ≡ s p
       meant = rw (ne-eqb p q (λ h. n (sym h)))
@@ -91,7 +83,7 @@ module _ (s : ℕ → ℕ) (k : ℕ) (ws : List ℕ) where
       to t = eq-eqb _ _ (last ∙ ap (λ (x : ℕ). ones + x) (eqb-true _ _ t ∙ meant))
 
       from : eqb (rank ws (end - 1 + 1)) (ones + s p) ≡ true → vectorTrue p q ≡ true
-      from t = eq-eqb (vectorOnes p q) (onesIn s p q) (omega (arith, last, meant, eqb-true (rank ws (end - 1 + 1)) (ones + s p) t))
+      from t = eq-eqb (vectorOnes s k ws p q) (onesIn s p q) (omega (arith, last, meant, eqb-true (rank ws (end - 1 + 1)) (ones + s p) t))
 
   -- there is no vector p,p
   pub offset-own : (p : ℕ) → offset s k p (p + 1) ≡ offset s k p p
@@ -100,18 +92,12 @@ module _ (s : ℕ → ℕ) (k : ℕ) (ws : List ℕ) where
   pub own-true : (p : ℕ) → vectorTrue p p ≡ true
   own-true p =
       let meant : onesIn s p p ≡ 0 = rw (eq-eqb p p refl) in
-      eq-eqb (vectorOnes p p) (onesIn s p p) (omega (arith, rank-vector p p, ap (rank ws) (offset-own p)))
-
-  -- the ones up to vector p,q, where the vectors of p are true
-  row-rank : (p : ℕ) → every (vectorTrue p) k ≡ true → (q : ℕ) → q ≤ k → rank ws (offset s k p q) ≡ rank ws (offset s k p 0) + sum (onesIn s p) q
-  row-rank p t zero h = omega (arith, sum-none (onesIn s p))
-  row-rank p t (suc q) h =
-      let e : q + 1 ≡ suc q = add-one q in
-      let f : rank ws (offset s k p (q + 1)) ≡ rank ws (offset s k p (suc q)) = ap (λ (x : ℕ). rank ws (offset s k p x)) e in
-      let v : vectorOnes p q ≡ onesIn s p q = eqb-true _ _ (every-one (vectorTrue p) k q t (omega arith)) in
-      omega (arith, rank-vector p q, row-rank p t q (omega arith), sum-suc (onesIn s p) q)
+      eq-eqb (vectorOnes s k ws p p) (onesIn s p p) (omega (arith, rank-vector s k ws p p, ap (rank ws) (offset-own p)))
 
   -- a row of true vectors has k - 1 times as many ones as p has units
   pub rank-row : (p : ℕ) → p < k → every (vectorTrue p) k ≡ true → rank ws (offset s k (p + 1) 0) ≡ rank ws (offset s k p 0) + (k - 1) * s p
   rank-row p l t =
-      omega (arith, ap (rank ws) (offset-row s k p), row-rank p t k (omega arith), ones-in-row s k p l)
+      omega (arith, ap (rank ws) (offset-row s k p), rank-along s k ws p ones k (omega arith), ones-in-row s k p l)
+    where
+      ones : (q : ℕ) → q < k → vectorOnes s k ws p q ≡ onesIn s p q
+      ones q h = eqb-true _ _ (every-one (vectorTrue p) k q t h)

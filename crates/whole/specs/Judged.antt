@@ -14,7 +14,7 @@ use Rattle.whole.specs.declared.Judged.{Judged}
 
 -- the number of the first condition that fails, and where there is none the first bit of the vectors of each track
 unfoldable pub judgedBy : (ℕ → ℕ) → ℕ → ℕ → Judged
-judgedBy s k number = record { fault = number; row = cond (eqb number 0) (rowStarts s k) (replicate 33 0) }
+judgedBy s k number = record { fault = number; row = cond (eqb number 0) (rowStarts s k) (replicate 66 0) }
 
 abbrev pub judged : Index → Judged
 judged x = judgedBy (sizes x) (x .head .k) (fault x)

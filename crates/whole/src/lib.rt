@@ -48,18 +48,16 @@ fn directory_true(words: &[u64], directory: &[u16], count: usize) -> bool
     if count == 0 {
         return true;
     }
-    if directory[0] != 0 {
-        return false;
-    }
+    let mut right = directory[0] == 0;
     let mut j: usize = 1;
     while j < count {
         let i = j - 1;
         if directory[j] as u32 != directory[i] as u32 + u64::count_ones(words[i]) {
-            return false;
+            right = false;
         }
         j += 1;
     }
-    true
+    right
 }
 
 // Each of the vectors p,q, which start at bit start with the given ones before them, has as many ones as p has units.
@@ -98,7 +96,7 @@ fn vectors_true(
     words: &[u64],
     directory: &[u16],
     lens: &[u16; 32],
-    row: &[u32; 33],
+    row: &[u32; 66],
     k: usize,
 ) -> bool
     requires { ⌜ Lengths (lensOf (now lens)) k ⌝ }
@@ -122,15 +120,15 @@ fn vectors_true(
 // the first bit of the vectors of each track.
 pub struct Judged {
     pub fault: u32,
-    pub row: [u32; 33],
+    pub row: [u32; 66],
 }
 
 fn faulty(number: u32) -> Judged
-    ensures { λ r. ⌜ r ≡ record { fault = number; row = replicate 33 0 } ⌝ }
+    ensures { λ r. ⌜ r ≡ record { fault = number; row = replicate 66 0 } ⌝ }
 {
     Judged {
         fault: number,
-        row: [0u32; 33],
+        row: [0u32; 66],
     }
 }
 

@@ -1,10 +1,11 @@
 -- `bounds::high_at`: high is read off the place of a 0 of vector q,p, and in its own track it is the position behind. Assumes nothing.
-use mathlib.Core.Path.{sym}
+use mathlib.Core.Path.{sym, ap, _∙_}
 use native.Mathlib.Omega.{arith}
 use borrow.Author.Needs.{needs}
+use Rattle.rules.specs.Bits.{rank}
 use Rattle.rules.specs.Index.{lensOf, vectorOf}
 use Rattle.rules.proofs.Wholes.{high-at-own, high-at-other}
-use Rattle.bounds.proofs.Vectors.{Vector, length-few, word-true, vector-within, vector-covers, in-zeros, zero-low}
+use Rattle.bounds.proofs.Vectors.{Vector, length-few, vector-before, vector-covers, in-zeros, zero-low}
 use Rattle.bounds.proofs.high_at.Statement.{statement}
 use Rattle.bounds.proofs.high_at.Tie as tie
 
@@ -30,9 +31,8 @@ returns c =
 vector-start-requires : tie.Need-vector-start-requires
 vector-start-requires c κs = search needs
 
-ones-before-requires : tie.Need-ones-before-requires
-ones-before-requires c κs =
-    word-true (entry c .pre .0) _ (omega (arith, c .vector-start .ensures, vector-within (entry c .pre .0) (vector c)))
+vector-ones-requires : tie.Need-vector-ones-requires
+vector-ones-requires c κs = search needs
 
 mul-wide : tie.Need-mul-wide
 mul-wide c = search needs
@@ -62,7 +62,7 @@ place-of-zero-requires c κs =
     let v = vector (start c) in (
       rw (c .wide2 .ensures .0, c .before .before .wide .ensures .0, start c .vector-start .ensures) (vector-covers (g .pre .0) v),
       (
-        c .before .before .before .before .ones-before .ensures,
+        c .before .before .before .before .vector-ones .ensures ∙ sym (ap (rank (g .args .words .now)) (start c .vector-start .ensures) ∙ vector-before (g .pre .0) v),
         (g .pre .1 .0 .from, rw (c .wide2 .ensures .0, c .before .before .wide .ensures .0, start c .vector-start .ensures) (in-zeros (g .pre .0) v (g .pre .1 .0 .to))),
       ),
     )
@@ -93,7 +93,7 @@ high-at-spec =
     add-result
     returns
     vector-start-requires
-    ones-before-requires
+    vector-ones-requires
     mul-wide
     element-copy-out-wide
     wide-requires

@@ -1,12 +1,14 @@
--- `bounds::reaches`: in its own track a unit reaches all before it, and in another track one rank tells. Assumes nothing.
-use Prim.Native.Nat.{ℕ, _+_, _*_, _≤_}
-use mathlib.Core.Path.{sym}
+-- `bounds::reaches`: in its own track a unit reaches all before it, and in another track one rank tells, beside the ones before the vector. Assumes nothing.
+use Prim.Native.Nat.{ℕ, _+_, _-_, _*_, _≤_}
+use mathlib.Core.Path.{_≡_, sym, ap, _∙_}
 use native.Mathlib.Omega.{arith}
+use lib.Dec.{ltb}
 use borrow.Author.Needs.{needs}
-use Rattle.rules.specs.Layout.{wordCount}
+use Rattle.rules.specs.Layout.{offset, wordCount}
+use Rattle.rules.specs.Bits.{rank}
 use Rattle.rules.specs.Index.{lensOf}
 use Rattle.rules.proofs.Bits.{rank-le}
-use Rattle.bounds.proofs.Vectors.{Vector, words-few, word-true, vector-within, low-by-order, low-by-rank}
+use Rattle.bounds.proofs.Vectors.{Vector, words-few, word-true, vector-before, vector-within, low-by-order, low-by-rank}
 use Rattle.bounds.proofs.reaches.Statement.{statement}
 use Rattle.bounds.proofs.reaches.Tie as tie
 
@@ -34,32 +36,44 @@ returns c =
 vector-start-requires : tie.Need-vector-start-requires
 vector-start-requires c κs = search needs
 
+vector-ones-requires : tie.Need-vector-ones-requires
+vector-ones-requires c κs = search needs
+
 add-ones-before : tie.Need-add-ones-before
-add-ones-before c = omega (arith, within c)
+add-ones-before c = omega (arith, within (c .before))
 
 add-ones-before-2 : tie.Need-add-ones-before-2
-add-ones-before-2 c = omega (arith, within c)
+add-ones-before-2 c = omega (arith, within (c .before))
 
 sub-ones-before : tie.Need-sub-ones-before
 sub-ones-before c = search needs
 
 ones-before-requires : tie.Need-ones-before-requires
-ones-before-requires c κs = word-true (entry c .pre .0) _ (omega (arith, within c))
+ones-before-requires c κs = word-true (entry (c .before) .pre .0) _ (omega (arith, within (c .before)))
 
-ones-before-requires-2 : tie.Need-ones-before-requires-2
-ones-before-requires-2 c κs = word-true (entry (c .before) .pre .0) _ (omega (arith, within (c .before)))
+-- the ones before the vector, as the words have them
+before : (c : tie.After-vector-ones) → c .vector-ones .result ≡ rank (entry (c .before) .args .words .now) (c .before .vector-start .result)
+before c =
+    let o = c .before in
+    c .vector-ones .ensures ∙ sym (ap (rank (entry o .args .words .now)) (o .vector-start .ensures) ∙ vector-before (entry o .pre .0) (vector o))
 
 add-result : tie.Need-add-result
 add-result c =
     let o = c .before .before in
-    omega (arith, within o, rank-le (entry o .args .words .now) (o .vector-start .result))
+    omega (arith, within o, before (c .before), rank-le (entry o .args .words .now) (o .vector-start .result))
 
 returns-2 : tie.Need-returns-2
 returns-2 c =
     let o = c .before .before in
     let g = entry o in
-    rw (c .before .ones-before .ensures, c .ones-before2 .ensures, o .vector-start .ensures)
-    (sym (low-by-rank (g .pre .0) (g .args .j) (g .pre .1 .0) (vector o)))
+    let a = g .args in
+    let off = offset (lensOf (a .lens .now)) (a .k) (a .p) (a .q) in
+    let at : c .ones-before .result ≡ rank (a .words .now) (off + a .i + a .j - 1) =
+    c .ones-before .ensures ∙ ap (λ x. rank (a .words .now) (x + a .i + a .j - 1)) (o .vector-start .ensures) in
+    let start : c .before .vector-ones .result ≡ rank (a .words .now) off =
+    c .before .vector-ones .ensures ∙ sym (vector-before (g .pre .0) (vector o)) in
+    ap (λ x. ltb x (c .before .vector-ones .result + a .i)) at ∙ ap (λ x. ltb (rank (a .words .now) (off + a .i + a .j - 1)) (x + a .i)) start
+    ∙ sym (low-by-rank (g .pre .0) (a .j) (g .pre .1 .0) (vector o))
 
 pub reaches-spec : {M : Type 1} → statement M
 reaches-spec =
@@ -67,10 +81,10 @@ reaches-spec =
     (tie.spec
     returns
     vector-start-requires
+    vector-ones-requires
     add-ones-before
     add-ones-before-2
     sub-ones-before
     ones-before-requires
-    ones-before-requires-2
     add-result
     returns-2)

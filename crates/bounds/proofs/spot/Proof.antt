@@ -67,6 +67,9 @@ loop-again c =
 cast-t7 : tie.Need-cast-t7 Inv-loop μ-loop
 cast-t7 c = omega (arith, c .before .before .shared-slice-known .given (c .before .before .before .args .u - 1))
 
+cast-t14 : tie.Need-cast-t14 Inv-loop μ-loop
+cast-t14 c = let l = c .before in omega (arith, in-le (list l) (own l) (l .loop .i))
+
 returns : tie.Need-returns Inv-loop μ-loop
 unfolding track
 returns c =
@@ -92,4 +95,5 @@ spot-spec =
     loop-less
     loop-again
     cast-t7
+    cast-t14
     returns)

@@ -1,66 +1,31 @@
--- `listing::bad_track` meets its contract. The invariant: no entry before i is k or more. So the entry at which the loop returns is the
--- first, and where it runs to the end there is none. Assumes nothing.
-use Prim.Native.Nat.{ℕ, _-_, _≤_, _<_}
+-- `listing::bad_track`: where the greatest entry is below k, there is no first of k or more. Assumes nothing.
+use Prim.Native.Nat.{ℕ, _≤_}
 use mathlib.Core.Path.{_≡_, sym}
-use mathlib.Core.Bool.{false}
 use native.Mathlib.Omega.{arith}
 use lib.ListN.{length, getD}
 use lib.Dec.{leb}
-use borrow.Author.Count.{below-more}
 use borrow.Author.Needs.{needs}
-use borrow.Author.Tests.{le-leb, lt-leb}
-use Rattle.rules.proofs.Ranges.{first-is, first-none}
+use borrow.Author.Tests.{lt-leb}
+use Rattle.rules.specs.Ranges.{first, greatest}
+use Rattle.rules.proofs.Ranges.{first-none, greatest-bound}
 use Rattle.listing.proofs.bad_track.Statement.{statement}
 use Rattle.listing.proofs.bad_track.Tie as tie
 
-abbrev Inv-loop : tie.InvT-loop
-Inv-loop tracks k i₀ i = (i ≤ length tracks) × ((j : ℕ) → j < i → leb k (getD tracks j 0) ≡ false)
+greatest-track-requires : tie.Need-greatest-track-requires
+greatest-track-requires c κs = search needs
 
-abbrev μ-loop : tie.MeasureT-loop
-μ-loop tracks k i₀ i = length tracks - i
-
-loop-holds : tie.Need-loop-holds Inv-loop μ-loop
-loop-holds c = (search needs, λ j l. absurd (omega arith))
-
-mul-if1 : tie.Need-mul-if1 Inv-loop μ-loop
-mul-if1 c = search needs
-
-shared-slice-read-if1 : tie.Need-shared-slice-read-if1 Inv-loop μ-loop
-shared-slice-read-if1 c = search needs
-
-returns : tie.Need-returns Inv-loop μ-loop
+returns : tie.Need-returns
 returns c =
-    let tracks = c .before .before .before .before .args .tracks .now in
-    let k = c .before .before .before .before .args .k in
-    let i = c .before .before .before .loop .i in
-    sym (first-is (λ j. leb k (getD tracks j 0)) (length tracks) i (c .before .before .loop-test .taken) (c .before .before .before .loop .inv .1) (le-leb k (getD tracks i 0) (c .if1 .taken)))
+    let a = c .before .before .before .args in
+    let f : ℕ → ℕ = λ i. getD (a .tracks .now) i 0 in
+    sym (first-none (λ i. leb (a .k) (f i)) (length (a .tracks .now)) (λ i l. lt-leb (a .k) (f i) (omega (arith, greatest-bound f (length (a .tracks .now)) i l))))
 
-add-i : tie.Need-add-i Inv-loop μ-loop
-add-i c = search needs
+first-from-track-requires : tie.Need-first-from-track-requires
+first-from-track-requires c κs = search needs
 
-loop-less : tie.Need-loop-less Inv-loop μ-loop
-loop-less c = search needs
-
-loop-again : tie.Need-loop-again Inv-loop μ-loop
-loop-again c = (search needs, below-more _ _ (c .before .before .before .loop .inv .1) (lt-leb _ _ (c .if1 .left)))
-
-returns-2 : tie.Need-returns-2 Inv-loop μ-loop
-returns-2 c =
-    let tracks = c .before .before .args .tracks .now in
-    let k = c .before .before .args .k in
-    omega (arith, first-none (λ j. leb k (getD tracks j 0)) (length tracks) (λ j l. c .before .loop .inv .1 j (omega arith)))
+returns-2 : tie.Need-returns-2
+returns-2 c = search needs
 
 pub bad-track-spec : {M : Type 1} → statement M
 bad-track-spec =
-    tie.close
-    (tie.spec
-    Inv-loop
-    μ-loop
-    loop-holds
-    mul-if1
-    shared-slice-read-if1
-    returns
-    add-i
-    loop-less
-    loop-again
-    returns-2)
+    tie.close (tie.spec greatest-track-requires returns first-from-track-requires returns-2)

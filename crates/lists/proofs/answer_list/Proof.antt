@@ -89,7 +89,7 @@ write-units-requires : tie.Need-write-units-requires
 write-units-requires c κs =
     let b = c .before .before .before in
     let a = b .before .before .before .args in
-    (tracks-wide (b .before .before .before .pre .0), rw (rest (a .list .now) (a .place), length-drop) (omega (arith, room (c .before), count-is b)))
+    (tracks-wide (b .before .before .before .pre .0), (count-is b, rw (rest (a .list .now) (a .place), length-drop) (omega (arith, room (c .before)))))
 
 cast-t20 : tie.Need-cast-t20
 cast-t20 c = omega (arith, count-few (c .before .before .before .before .before .before))
@@ -102,7 +102,7 @@ returns-2 c =
     let b = c .before .before .before .before .before .before in
     let a = b .before .before .before .args in
     let w = c .before .before .write-units in
-    answered (spanned (a .from .now) (a .to .now) (a .tracks .now)) (a .list .now) (a .place) (b .span-count .result) (count-is b) (w .last .1 .1 .1 .0) (w .ensures) (room (c .before .before .before .before))
+    answered (spanned (a .from .now) (a .to .now) (a .tracks .now)) (a .list .now) (a .place) (b .span-count .result) (count-is b) (w .last .1 .1 .1 .1 .0) (w .ensures) (room (c .before .before .before .before))
 
 pub answer-list-spec : {M : Type 1} → statement M
 answer-list-spec =

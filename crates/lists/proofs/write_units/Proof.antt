@@ -6,20 +6,26 @@ use mathlib.Core.Logic.{⊎-elim}
 use native.Mathlib.Omega.{arith}
 use lib.ListN.{length, getD}
 use borrow.Author.Needs.{needs}
-use Rattle.lists.specs.Spans.{inSpans}
-use Rattle.lists.proofs.Spans.{Seen, seen-none, seen-le, seen-next, spans-seen, Written, written-none, written-length, written-room, written-yes, written-no}
+use Rattle.lists.specs.Spans.{inSpans, spanned}
+use Rattle.lists.proofs.Spans.{Seen, seen-none, seen-le, seen-next, spans-seen, Written, written-none, written-more, written-all, written-length, written-room, written-yes, written-no}
 use Rattle.lists.proofs.write_units.Statement.{statement}
 use Rattle.lists.proofs.write_units.Tie as tie
 
 abbrev Inv-loop : tie.InvT-loop
-Inv-loop tracks from to list₀ seen₀ count₀ i₀ list seen count i = (i ≤ length tracks) × Seen tracks i seen × Written from to tracks list₀ i list count
+Inv-loop tracks from to count list₀ seen₀ done₀ i₀ list seen done i = (i ≤ length tracks) × Seen tracks i seen × Written from to tracks list₀ i list done
 
 abbrev μ-loop : tie.MeasureT-loop
-μ-loop tracks from to list₀ seen₀ count₀ i₀ list seen count i = length tracks - i
+μ-loop tracks from to count list₀ seen₀ done₀ i₀ list seen done i = length tracks - i
+
+-- while a unit is to come, not all were seen
+more : (c : tie.In-loop Inv-loop μ-loop) → c .before .loop .i < length (c .before .before .before .before .args .tracks .now)
+more c =
+    let s = c .before .before .before .before in
+    written-more _ _ _ _ (c .before .loop .inv .2) (length (s .args .tracks .now)) (c .before .loop .inv .0) (omega (arith, s .pre .1 .0, c .loop-test .taken))
 
 -- the track of unit i + 1 is one of 32
 few : (c : tie.In-loop Inv-loop μ-loop) → getD (c .before .before .before .before .args .tracks .now) (c .before .loop .i) 0 < 32
-few c = c .before .before .before .before .pre .0 .each (c .before .loop .i) (c .loop-test .taken)
+few c = c .before .before .before .before .pre .0 .each (c .before .loop .i) (more c)
 
 -- the call tells whether unit i + 1 is in the spans
 test : (c : tie.After-in-span Inv-loop μ-loop)
@@ -31,20 +37,24 @@ test c =
     c .in-span .ensures
     ∙ sym (spans-seen (a .loop .inv .1) (few b) (a .before .before .before .args .from .now) (a .before .before .before .args .to .now) (a .loop .i + 1) refl)
 
+-- the list has room for all
+wide : (s : tie.Start Inv-loop μ-loop) → length (spanned (s .args .from .now) (s .args .to .now) (s .args .tracks .now)) ≤ length (s .args .list .now)
+wide s = omega (arith, s .pre .1)
+
 -- the list is as long as it was
 long : (c : tie.At-loop Inv-loop μ-loop) → length (c .loop .list) ≡ length (c .before .before .before .args .list .now)
 long c =
     let s = c .before .before .before in
-    written-length _ _ _ _ (c .loop .inv .2) (length (s .args .tracks .now)) (s .pre .1) (c .loop .inv .0)
+    written-length _ _ _ _ (c .loop .inv .2) (length (s .args .tracks .now)) (wide s) (c .loop .inv .0)
 
 -- and where unit i + 1 is in the spans, it has room for it
 room : (c : tie.Then1 Inv-loop μ-loop)
     → let a = c .before .before .before .before .before .before in
-    a .loop .count < length (a .before .before .before .args .list .now)
+    a .loop .done < length (a .before .before .before .args .list .now)
 room c =
     let a = c .before .before .before .before .before .before in
     let s = a .before .before .before in
-    written-room _ _ _ _ (a .loop .inv .2) (length (s .args .tracks .now)) (s .pre .1) (omega arith) (sym (test (c .before)) ∙ c .if1 .taken)
+    written-room _ _ _ _ (a .loop .inv .2) (length (s .args .tracks .now)) (wide s) (more (c .before .before .before .before .before)) (sym (test (c .before)) ∙ c .if1 .taken)
 
 loop-holds : tie.Need-loop-holds Inv-loop μ-loop
 loop-holds c = (omega arith, seen-none _, written-none _ _ _ _)
@@ -53,7 +63,7 @@ mul-q : tie.Need-mul-q Inv-loop μ-loop
 mul-q c = omega arith
 
 shared-slice-read-q : tie.Need-shared-slice-read-q Inv-loop μ-loop
-shared-slice-read-q c = omega arith
+shared-slice-read-q c = omega (arith, more (c .before))
 
 cast-q : tie.Need-cast-q Inv-loop μ-loop
 cast-q c = omega (arith, few (c .before))
@@ -102,20 +112,20 @@ mul-list c = omega (arith, room c)
 slice-write-list : tie.Need-slice-write-list Inv-loop μ-loop
 slice-write-list c = omega (arith, room c, long (c .before .before .before .before .before .before))
 
-add-count : tie.Need-add-count Inv-loop μ-loop
-add-count c = omega (arith, room c)
+add-done : tie.Need-add-done Inv-loop μ-loop
+add-done c = omega (arith, room c)
 
 add-i : tie.Need-add-i Inv-loop μ-loop
 add-i c = omega arith
 
 loop-less : tie.Need-loop-less Inv-loop μ-loop
-loop-less c = omega arith
+loop-less c = omega (arith, more (c .before .before .before .before .before))
 
 loop-again : tie.Need-loop-again Inv-loop μ-loop
 loop-again c =
     let b = c .before .before .before .before .before in
     let a = b .before in (
-      omega arith,
+      omega (arith, more b),
       seen-next (a .loop .inv .1) (few b) (a .loop .i + 1) refl,
       ⊎-elim
           (λ w.
@@ -130,8 +140,8 @@ same-length c = long (c .before)
 
 returns : tie.Need-returns Inv-loop μ-loop
 returns c =
-    let e : c .before .loop .i ≡ length (c .before .before .before .before .args .tracks .now) = omega arith in
-    rw (sym e) (c .before .loop .inv .2 .list-is)
+    let s = c .before .before .before .before in
+    written-all _ _ _ _ (c .before .loop .inv .2) (length (s .args .tracks .now)) (c .before .loop .inv .0) (omega (arith, s .pre .1 .0, c .loop-test .left))
 
 pub write-units-spec : {M : Type 1} → statement M
 write-units-spec =
@@ -157,7 +167,7 @@ write-units-spec =
     add-list
     mul-list
     slice-write-list
-    add-count
+    add-done
     add-i
     loop-less
     loop-again

@@ -2,10 +2,10 @@
 -- is as it was. Assumes nothing.
 use Prim.Native.Nat.{_+_, _-_, _≤_, _<_}
 use mathlib.Core.Path.{_≡_}
-use mathlib.Core.Logic.{⊎-elim}
 use native.Mathlib.Omega.{arith}
+use borrow.Author.Needs.{needs}
 use Rattle.rows.specs.Rows.{RowIs}
-use Rattle.rows.proofs.Areas.{row-start, joined, join-write, join-leave}
+use Rattle.rows.proofs.Areas.{row-start, joined, join-write}
 use Rattle.rows.proofs.join_row.Statement.{statement}
 use Rattle.rows.proofs.join_row.Tie as tie
 
@@ -19,6 +19,15 @@ abbrev μ-loop : tie.MeasureT-loop
 loop-holds : tie.Need-loop-holds Inv-loop μ-loop
 loop-holds c = (omega arith, row-start _ _ _)
 
+add-here : tie.Need-add-here Inv-loop μ-loop
+add-here c = omega arith
+
+mul-here : tie.Need-mul-here Inv-loop μ-loop
+mul-here c = omega arith
+
+slice-read-here : tie.Need-slice-read-here Inv-loop μ-loop
+slice-read-here c = omega arith
+
 add-far : tie.Need-add-far Inv-loop μ-loop
 add-far c = omega arith
 
@@ -28,14 +37,8 @@ mul-far c = omega arith
 slice-read-far : tie.Need-slice-read-far Inv-loop μ-loop
 slice-read-far c = omega arith
 
-add-if1 : tie.Need-add-if1 Inv-loop μ-loop
-add-if1 c = omega arith
-
-mul-if1 : tie.Need-mul-if1 Inv-loop μ-loop
-mul-if1 c = omega arith
-
-slice-read-if1 : tie.Need-slice-read-if1 Inv-loop μ-loop
-slice-read-if1 c = omega arith
+greater-requires : tie.Need-greater-requires Inv-loop μ-loop
+greater-requires c κs = search needs
 
 add-work : tie.Need-add-work Inv-loop μ-loop
 add-work c = omega arith
@@ -50,19 +53,19 @@ add-q : tie.Need-add-q Inv-loop μ-loop
 add-q c = omega arith
 
 loop-less : tie.Need-loop-less Inv-loop μ-loop
-loop-less c = ⊎-elim (λ w. omega arith) (λ w. omega arith) (c .if1 .came)
+loop-less c = omega arith
 
 loop-again : tie.Need-loop-again Inv-loop μ-loop
 loop-again c =
-    let r = c .before .before .before .before .loop .inv .1 in
-    let b : c .before .before .before .before .before .args .from + c .before .before .before .before .loop .q < c .before .before .before .before .before .args .to = omega arith in
-    (omega arith, ⊎-elim (λ w. rw (w .1) (join-write _ r b (omega arith) (w .0 .taken))) (λ w. rw (w .1) (join-leave _ r b (w .0 .left))) (c .if1 .came))
+    let l = c .before .before .before .before in
+    let b : l .before .before .args .from + l .loop .q < l .before .before .args .to = omega arith in
+    (omega arith, join-write _ (l .loop .inv .1) b _ (omega arith) (c .greater .ensures))
 
 same-length : tie.Need-same-length Inv-loop μ-loop
 same-length c = omega arith
 
 returns : tie.Need-returns Inv-loop μ-loop
-returns c = let e : c .before .loop .q ≡ c .before .before .args .k = omega arith in rw e at (c .before .loop .inv .1)
+returns c = let e : c .before .loop .q ≡ c .before .before .before .args .k = omega arith in rw e at (c .before .loop .inv .1)
 
 pub join-row-spec : {M : Type 1} → statement M
 join-row-spec =
@@ -71,12 +74,13 @@ join-row-spec =
     Inv-loop
     μ-loop
     loop-holds
+    add-here
+    mul-here
+    slice-read-here
     add-far
     mul-far
     slice-read-far
-    add-if1
-    mul-if1
-    slice-read-if1
+    greater-requires
     add-work
     mul-work
     slice-write-work

@@ -1,0 +1,305 @@
+// The calls of the box for C: each hands its arguments on and tells the answer as plain numbers. include/ngolishepa.h declares them.
+use rules::Head;
+use rules::NumberAnswer;
+use rules::PairAnswer;
+use rules::Refusal;
+use rules::Verdict;
+ghost use mathlib.Core.Path.{_≡_};
+ghost use Rattle.rules.specs.Index.{index};
+ghost use Rattle.rules.specs.Listing.{listing, listingVerdict};
+ghost use Rattle.rules.specs.Questions.{kind10, kind11, kind12, kind13, kind14, kind15, kind16, kind17, kind18};
+ghost use Rattle.rules.specs.Outcomes.{buildOutcome, wholeVerdict, pairOutcome, unitOutcome, boundOutcome, listOutcome};
+ghost use Rattle.ngolishepa.specs.Told.{toldRefusal, toldVerdict, toldPair, toldNumber, toldPart, toldBuild, toldList, ListTold, BuildTold};
+
+// A refusal by its number and its place; both 0 where there is none.
+#[repr(C)]
+pub struct Told {
+    pub number: u32,
+    pub place: u32,
+}
+
+// What a build answers.
+#[repr(C)]
+pub struct BuiltTold {
+    pub head: Head,
+    pub bits: u32,
+    pub refusal: Told,
+}
+
+// Yes, no (yes is false) or refused.
+#[repr(C)]
+pub struct PairTold {
+    pub refusal: Told,
+    pub yes: bool,
+}
+
+// A count, a stage or a unit; 0 where it is refused.
+#[repr(C)]
+pub struct NumberTold {
+    pub refusal: Told,
+    pub number: u32,
+}
+
+// Where the part of a need list stands; both 0 where it is refused.
+#[repr(C)]
+pub struct PartTold {
+    pub refusal: Told,
+    pub start: usize,
+    pub count: usize,
+}
+
+// ---- answers as plain numbers
+
+fn tell_refusal(refusal: Refusal) -> Told
+    ensures { λ r. ⌜ r ≡ toldRefusal refusal ⌝ }
+{
+    Told {
+        number: rules::number(refusal) as u32,
+        place: rules::place(refusal),
+    }
+}
+
+fn tell_verdict(verdict: Verdict) -> Told
+    ensures { λ r. ⌜ r ≡ toldVerdict verdict ⌝ }
+{
+    match verdict {
+        Verdict::Fine => Told {
+            number: 0,
+            place: 0,
+        },
+        Verdict::Refused(refusal) => tell_refusal(refusal),
+    }
+}
+
+fn tell_pair(answer: PairAnswer) -> PairTold
+    ensures { λ r. ⌜ r ≡ toldPair answer ⌝ }
+{
+    match answer {
+        PairAnswer::Yes => PairTold {
+            refusal: tell_verdict(Verdict::Fine),
+            yes: true,
+        },
+        PairAnswer::No => PairTold {
+            refusal: tell_verdict(Verdict::Fine),
+            yes: false,
+        },
+        PairAnswer::Refused(refusal) => PairTold {
+            refusal: tell_refusal(refusal),
+            yes: false,
+        },
+    }
+}
+
+pub fn tell_number(answer: NumberAnswer) -> NumberTold
+    ensures { λ r. ⌜ r ≡ toldNumber answer ⌝ }
+{
+    match answer {
+        NumberAnswer::Number(number) => NumberTold {
+            refusal: tell_verdict(Verdict::Fine),
+            number: number as u32,
+        },
+        NumberAnswer::Refused(refusal) => NumberTold {
+            refusal: tell_refusal(refusal),
+            number: 0,
+        },
+    }
+}
+
+// ---- a listing
+
+#[no_mangle]
+pub extern "C" fn ngolishepa_check_listing(n: u16, k: u16, tracks: &[u16], needs: &[u16]) -> Told
+    ensures { λ r. ⌜ r ≡ toldVerdict (listingVerdict (listing n k (now (tracks .entry)) (now (needs .entry)))) ⌝ }
+{
+    tell_verdict(listing::check(n, k, tracks, needs))
+}
+
+#[no_mangle]
+pub extern "C" fn ngolishepa_part(needs: &[u16], unit: u16) -> PartTold
+    ensures { λ r. ⌜ r ≡ toldPart (now (needs .entry)) unit ⌝ }
+{
+    let span = listing::part_span(needs, unit);
+    PartTold {
+        refusal: tell_verdict(listing::part_verdict(needs, unit)),
+        start: span.start,
+        count: span.count,
+    }
+}
+
+// ---- the index
+
+#[no_mangle]
+pub extern "C" fn ngolishepa_build(
+    n: u16,
+    k: u16,
+    tracks: &[u16],
+    needs: &[u16],
+    words: &mut [u64],
+    directory: &mut [u16],
+    work: &mut [u16],
+) -> BuiltTold
+    ensures { λ r. ⌜ record { answer = r; words = now (words .exit); directory = now (directory .exit); work = now (work .exit) } ≡ toldBuild (buildOutcome (listing n k (now (tracks .entry)) (now (needs .entry))) (now (words .entry)) (now (directory .entry)) (now (work .entry))) ⌝ }
+{
+    let built = build::build(n, k, tracks, needs, words, directory, work);
+    let head = built.head;
+    let bits = built.bits;
+    let verdict = built.verdict;
+    let refusal = tell_verdict(verdict);
+    BuiltTold {
+        head,
+        bits,
+        refusal,
+    }
+}
+
+#[no_mangle]
+pub extern "C" fn ngolishepa_check_index(
+    head: Head,
+    tracks: &[u16],
+    words: &[u64],
+    directory: &[u16],
+) -> Told
+    ensures { λ r. ⌜ r ≡ toldVerdict (wholeVerdict (index head (now (tracks .entry)) (now (words .entry)) (now (directory .entry)))) ⌝ }
+{
+    tell_verdict(whole::check(head, tracks, words, directory))
+}
+
+// ---- the questions
+
+// Kind 10.
+#[no_mangle]
+pub extern "C" fn ngolishepa_needs(
+    head: Head,
+    tracks: &[u16],
+    words: &[u64],
+    directory: &[u16],
+    u: u16,
+    v: u16,
+) -> PairTold
+    ensures { λ r. ⌜ r ≡ toldPair (pairOutcome (index head (now (tracks .entry)) (now (words .entry)) (now (directory .entry))) u v (kind10 (index head (now (tracks .entry)) (now (words .entry)) (now (directory .entry))) u v)) ⌝ }
+{
+    tell_pair(questions::needs(head, tracks, words, directory, u, v))
+}
+
+// Kind 11.
+#[no_mangle]
+pub extern "C" fn ngolishepa_is_step(
+    head: Head,
+    tracks: &[u16],
+    words: &[u64],
+    directory: &[u16],
+    u: u16,
+    v: u16,
+) -> PairTold
+    ensures { λ r. ⌜ r ≡ toldPair (pairOutcome (index head (now (tracks .entry)) (now (words .entry)) (now (directory .entry))) u v (kind11 (index head (now (tracks .entry)) (now (words .entry)) (now (directory .entry))) u v)) ⌝ }
+{
+    tell_pair(questions::is_step(head, tracks, words, directory, u, v))
+}
+
+// Kind 12.
+#[no_mangle]
+pub extern "C" fn ngolishepa_needed(
+    head: Head,
+    tracks: &[u16],
+    words: &[u64],
+    directory: &[u16],
+    u: u16,
+    list: &mut [u16],
+    place: usize,
+) -> NumberTold
+    ensures { λ r. ⌜ record { answer = r; list = now (list .exit) } ≡ toldList (listOutcome (index head (now (tracks .entry)) (now (words .entry)) (now (directory .entry))) u (kind12 (index head (now (tracks .entry)) (now (words .entry)) (now (directory .entry))) u) (now (list .entry)) place) ⌝ }
+{
+    tell_number(questions::needed(head, tracks, words, directory, u, list, place))
+}
+
+// Kind 13.
+#[no_mangle]
+pub extern "C" fn ngolishepa_needing(
+    head: Head,
+    tracks: &[u16],
+    words: &[u64],
+    directory: &[u16],
+    u: u16,
+    list: &mut [u16],
+    place: usize,
+) -> NumberTold
+    ensures { λ r. ⌜ record { answer = r; list = now (list .exit) } ≡ toldList (listOutcome (index head (now (tracks .entry)) (now (words .entry)) (now (directory .entry))) u (kind13 (index head (now (tracks .entry)) (now (words .entry)) (now (directory .entry))) u) (now (list .entry)) place) ⌝ }
+{
+    tell_number(questions::needing(head, tracks, words, directory, u, list, place))
+}
+
+// Kind 14.
+#[no_mangle]
+pub extern "C" fn ngolishepa_steps(
+    head: Head,
+    tracks: &[u16],
+    words: &[u64],
+    directory: &[u16],
+    u: u16,
+    list: &mut [u16],
+    place: usize,
+) -> NumberTold
+    ensures { λ r. ⌜ record { answer = r; list = now (list .exit) } ≡ toldList (listOutcome (index head (now (tracks .entry)) (now (words .entry)) (now (directory .entry))) u (kind14 (index head (now (tracks .entry)) (now (words .entry)) (now (directory .entry))) u) (now (list .entry)) place) ⌝ }
+{
+    tell_number(questions::steps(head, tracks, words, directory, u, list, place))
+}
+
+// Kind 15.
+#[no_mangle]
+pub extern "C" fn ngolishepa_steps_up(
+    head: Head,
+    tracks: &[u16],
+    words: &[u64],
+    directory: &[u16],
+    u: u16,
+    list: &mut [u16],
+    place: usize,
+) -> NumberTold
+    ensures { λ r. ⌜ record { answer = r; list = now (list .exit) } ≡ toldList (listOutcome (index head (now (tracks .entry)) (now (words .entry)) (now (directory .entry))) u (kind15 (index head (now (tracks .entry)) (now (words .entry)) (now (directory .entry))) u) (now (list .entry)) place) ⌝ }
+{
+    tell_number(questions::steps_up(head, tracks, words, directory, u, list, place))
+}
+
+// Kind 16.
+#[no_mangle]
+pub extern "C" fn ngolishepa_stage(
+    head: Head,
+    tracks: &[u16],
+    words: &[u64],
+    directory: &[u16],
+    u: u16,
+) -> NumberTold
+    ensures { λ r. ⌜ r ≡ toldNumber (unitOutcome (index head (now (tracks .entry)) (now (words .entry)) (now (directory .entry))) u (kind16 (index head (now (tracks .entry)) (now (words .entry)) (now (directory .entry))) u)) ⌝ }
+{
+    tell_number(questions::stage(head, tracks, words, directory, u))
+}
+
+// Kind 17.
+#[no_mangle]
+pub extern "C" fn ngolishepa_unit_low(
+    head: Head,
+    tracks: &[u16],
+    words: &[u64],
+    directory: &[u16],
+    u: u16,
+    q: u16,
+) -> NumberTold
+    ensures { λ r. ⌜ r ≡ toldNumber (boundOutcome (index head (now (tracks .entry)) (now (words .entry)) (now (directory .entry))) u q (kind17 (index head (now (tracks .entry)) (now (words .entry)) (now (directory .entry))) u q)) ⌝ }
+{
+    tell_number(questions::unit_low(head, tracks, words, directory, u, q))
+}
+
+// Kind 18.
+#[no_mangle]
+pub extern "C" fn ngolishepa_unit_high(
+    head: Head,
+    tracks: &[u16],
+    words: &[u64],
+    directory: &[u16],
+    u: u16,
+    q: u16,
+) -> NumberTold
+    ensures { λ r. ⌜ r ≡ toldNumber (boundOutcome (index head (now (tracks .entry)) (now (words .entry)) (now (directory .entry))) u q (kind18 (index head (now (tracks .entry)) (now (words .entry)) (now (directory .entry))) u q)) ⌝ }
+{
+    tell_number(questions::unit_high(head, tracks, words, directory, u, q))
+}
