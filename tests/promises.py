@@ -26,7 +26,7 @@ for number, line in enumerate(text.split("\n"), 1):
     if not line.startswith("| ") or line.startswith("| ---") or line.startswith("| What"):
         continue
     cited = re.findall(r"`([^`#]+)#([^`]+)`", line)
-    files = re.findall(r"`((?:crates|tests|samples|docs)/[^`#]+)`", line)
+    files = re.findall(r"`((?:crates|tests|samples|docs|include|examples)/[^`#]+)`", line)
     if not cited and not files and "not yet" not in line:
         failed += 1
         print(f"PROMISES.md:{number}: no name, file or 'not yet'")

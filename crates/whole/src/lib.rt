@@ -21,14 +21,15 @@ fn lengths_true(lens: &[u16; 32], tracks: &[u16], k: usize) -> bool
     ensures { λ r. ⌜ r ≡ lengthsTrue (now (lens .entry)) k (now (tracks .entry)) ⌝ }
 {
     let counts = listing::track_lengths(tracks);
+    let mut right = true;
     let mut q: usize = 0;
     while q < 32 {
         if lens[q] != counts[q] || (lens[q] == 0) != (k <= q) {
-            return false;
+            right = false;
         }
         q += 1;
     }
-    true
+    right
 }
 
 // The bits of the last word past the vectors are 0.

@@ -1,27 +1,35 @@
--- `whole::lengths_true`: after q turns the first q lengths are right. Assumes nothing.
-use Prim.Native.Nat.{ℕ, _-_, _≤_, _<_}
-use mathlib.Core.Path.{_≡_, sym}
-use mathlib.Core.Bool.{true}
+-- `whole::lengths_true`: after q turns it is known whether the first q lengths are right. Assumes nothing.
+use Prim.Native.Nat.{ℕ, _+_, _-_, _≤_, _<_}
+use mathlib.Core.Path.{_≡_, refl, sym, ap, _∙_}
+use mathlib.Core.Bool.{Bool, true, false, _&&_, and-true}
 use mathlib.Core.Logic.{⊎-elim}
-use borrow.Author.Count.{below-more}
 use native.Mathlib.Omega.{arith}
+use Rattle.rules.specs.Ranges.{every}
 use Rattle.rules.specs.Index.{lengthsTrue}
-use Rattle.rules.proofs.Ranges.{every-all, every-not}
+use Rattle.rules.proofs.Ranges.{every-all, every-next, every-not}
 use Rattle.whole.proofs.Lengths.{lengthTrue, length-right, length-miscounted, length-misused}
 use Rattle.whole.proofs.lengths_true.Statement.{statement}
 use Rattle.whole.proofs.lengths_true.Tie as tie
 
 abbrev Inv-loop : tie.InvT-loop
-Inv-loop lens tracks k counts q₀ q = (q ≤ 32) × ((q′ : ℕ) → q′ < q → lengthTrue lens k tracks q′ ≡ true)
+Inv-loop lens tracks k counts right₀ q₀ right q = (q ≤ 32) × (right ≡ every (lengthTrue lens k tracks) q)
 
 abbrev μ-loop : tie.MeasureT-loop
-μ-loop lens tracks k counts q₀ q = 32 - q
+μ-loop lens tracks k counts right₀ q₀ right q = 32 - q
+
+-- a length that is right leaves it as it was
+turn-right : (p : ℕ → Bool) (q : ℕ) → p q ≡ true → every p q ≡ every p (q + 1)
+turn-right p q t = rw (every-next p q, t) (sym (and-true (every p q)))
+
+-- one that is not settles it
+turn-wrong : (p : ℕ → Bool) (q : ℕ) → p q ≡ false → false ≡ every p (q + 1)
+turn-wrong p q f = sym (every-not p (q + 1) q (omega arith) f)
 
 track-lengths-requires : tie.Need-track-lengths-requires Inv-loop μ-loop
 track-lengths-requires c κs = (omega arith, c .before .pre .1)
 
 loop-holds : tie.Need-loop-holds Inv-loop μ-loop
-loop-holds c = (omega arith, λ q l. absurd (omega arith))
+loop-holds c = (omega arith, sym (every-all _ 0 (λ q l. absurd (omega arith))))
 
 mul-if1 : tie.Need-mul-if1 Inv-loop μ-loop
 mul-if1 c = omega arith
@@ -41,17 +49,6 @@ mul-if2 c = omega arith
 element-copy-out-if2 : tie.Need-element-copy-out-if2 Inv-loop μ-loop
 element-copy-out-if2 c = omega arith
 
-returns : tie.Need-returns Inv-loop μ-loop
-unfolding lengthsTrue
-returns c =
-    let s = c .before .before .before .before in
-    let a = s .before .before .args in
-    let q = c .before .before .before .loop .q in
-    let h : q < 32 = omega arith in
-    let miscounted = length-miscounted (a .lens .now) (a .k) (a .tracks .now) (s .track-lengths .result) (s .track-lengths .ensures) q h in
-    let misused = length-misused (a .lens .now) (a .k) (a .tracks .now) (s .track-lengths .result) (s .track-lengths .ensures) q h in
-    sym (every-not (lengthTrue (a .lens .now) (a .k) (a .tracks .now)) 32 q h (⊎-elim (λ w. miscounted (w .taken)) (λ w. misused (w .2 .taken)) (c .if1 .came)))
-
 add-q : tie.Need-add-q Inv-loop μ-loop
 add-q c = omega arith
 
@@ -60,17 +57,29 @@ loop-less c = omega arith
 
 loop-again : tie.Need-loop-again Inv-loop μ-loop
 loop-again c =
-    let s = c .before .before .before .before .before .before in
+    let l = c .before .before .before in
+    let s = l .before in
     let a = s .before .before .args in
-    let q = c .before .before .before .before .before .loop .q in
-    let right = length-right (a .lens .now) (a .k) (a .tracks .now) (s .track-lengths .result) (s .track-lengths .ensures) q (omega arith) in
-    (omega arith, below-more _ q (c .before .before .before .before .before .loop .inv .1) (right (c .before .before .if1 .left) (c .if2 .left)))
+    let q = l .loop .q in
+    let h : q < 32 = omega arith in
+    let p = lengthTrue (a .lens .now) (a .k) (a .tracks .now) in
+    let counted = s .track-lengths .ensures in
+    let right = length-right (a .lens .now) (a .k) (a .tracks .now) (s .track-lengths .result) counted q h in
+    let miscounted = length-miscounted (a .lens .now) (a .k) (a .tracks .now) (s .track-lengths .result) counted q h in
+    let misused = length-misused (a .lens .now) (a .k) (a .tracks .now) (s .track-lengths .result) counted q h in
+    (
+      omega arith,
+      ⊎-elim (λ w. w .1 ∙ turn-wrong p q (⊎-elim (λ t. miscounted (t .taken)) (λ t. misused (t .2 .taken)) (w .0 .came)))
+      (λ w. w .3 ∙ l .loop .inv .1 ∙ turn-right p q (right (w .0 .left) (w .2 .left))) (c .if1 .came),
+    )
 
-returns-2 : tie.Need-returns-2 Inv-loop μ-loop
+returns : tie.Need-returns Inv-loop μ-loop
 unfolding lengthsTrue
-returns-2 c =
-    let a = c .before .before .before .before .args in
-    sym (every-all (lengthTrue (a .lens .now) (a .k) (a .tracks .now)) 32 (λ q l. c .before .loop .inv .1 q (omega arith)))
+returns c =
+    let l = c .before in
+    let a = l .before .before .before .args in
+    let e : l .loop .q ≡ 32 = omega arith in
+    l .loop .inv .1 ∙ ap (every (lengthTrue (a .lens .now) (a .k) (a .tracks .now))) e
 
 pub lengths-true-spec : {M : Type 1} → statement M
 lengths-true-spec =
@@ -86,8 +95,7 @@ lengths-true-spec =
     array-read-if1
     mul-if2
     element-copy-out-if2
-    returns
     add-q
     loop-less
     loop-again
-    returns-2)
+    returns)
