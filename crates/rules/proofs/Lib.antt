@@ -1,6 +1,7 @@
 -- The laws about the definitions of specs/, in the order of a textbook.
 pub mod Ranges
 pub mod Verdicts
+pub mod Checks
 pub mod Paths
 pub mod Bits
 pub mod Places
@@ -17,5 +18,7 @@ pub mod Areas
 pub mod Builds
 pub mod Redrawn
 pub mod Demands
+pub mod Cases
+pub mod Refusing
 pub mod Stages
 pub mod Bench

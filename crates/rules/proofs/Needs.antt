@@ -62,7 +62,7 @@ unfolding badPair badUnits
 pair-good n l i g =
     rw (is-within (g .0 .0) (g .0 .1), is-within (g .1 .0) (g .1 .1), lt-ltb (lower l i) (upper l i) (g .2))
 
-above-is : (l : List ℕ) (i j : ℕ) → unitsAbove (upper l i) (lower l i) (upper l j) (lower l j) ≡ true → Below l j i
+pub above-is : (l : List ℕ) (i j : ℕ) → unitsAbove (upper l i) (lower l i) (upper l j) (lower l j) ≡ true → Below l j i
 unfolding unitsAbove
 above-is l i j h = go (or-either _ _ h)
   where
@@ -70,7 +70,7 @@ above-is l i j h = go (or-either _ _ h)
     go (inl t) = inl (ltb-true _ _ t)
     go (inr t) = let r = and-both _ _ t in inr (eqb-true _ _ (r .0), ltb-true _ _ (r .1))
 
-is-above : (l : List ℕ) (i j : ℕ) → Below l j i → unitsAbove (upper l i) (lower l i) (upper l j) (lower l j) ≡ true
+pub is-above : (l : List ℕ) (i j : ℕ) → Below l j i → unitsAbove (upper l i) (lower l i) (upper l j) (lower l j) ≡ true
 unfolding unitsAbove
 is-above l i j (inl t) = either-or (inl (lt-ltb _ _ t))
 is-above l i j (inr t) =
