@@ -1,7 +1,7 @@
 // A listing checked: refusals 1 to 5 in the order of their numbers; and the part of a need list that begins with a unit.
 use rules::Refusal;
 use rules::Verdict;
-ghost use Prim.Native.Nat.{ℕ, _+_, _≤_, _<_, max};
+ghost use Prim.Native.Nat.{ℕ, _+_, _≤_, _<_};
 ghost use mathlib.Core.Path.{_≡_};
 ghost use lib.ListN.{length, getD};
 ghost use lib.Dec.{leb, eqb};
@@ -12,12 +12,6 @@ ghost use Rattle.listing.specs.Spans.{partSpan};
 
 // ---- the tracks
 
-fn greater(a: u16, b: u16) -> u16
-    ensures { λ r. ⌜ r ≡ max a b ⌝ }
-{
-    if a < b { b } else { a }
-}
-
 // The greatest entry, 0 where there is none.
 fn greatest_track(tracks: &[u16]) -> u16
     ensures { λ r. ⌜ r ≡ greatest (λ i. getD (now (tracks .entry)) i 0) (length (now (tracks .entry))) ⌝ }
@@ -25,7 +19,7 @@ fn greatest_track(tracks: &[u16]) -> u16
     let mut most: u16 = 0;
     let mut i: usize = 0;
     while i < tracks.len() {
-        most = greater(most, tracks[i]);
+        most = rules::greater(most, tracks[i]);
         i += 1;
     }
     most

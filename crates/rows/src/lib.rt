@@ -11,12 +11,6 @@ ghost use Rattle.rules.proofs.Needs.{Pairs};
 ghost use Rattle.rules.proofs.Bounds.{reach};
 ghost use Rattle.rows.specs.Rows.{RowIs, brings, pairsTo};
 
-fn greater(a: u16, b: u16) -> u16
-    ensures { λ r. ⌜ r ≡ max a b ⌝ }
-{
-    if a < b { b } else { a }
-}
-
 // Row `to` becomes the greater of itself and row `from`, entry by entry; each entry is stored, so that no branch hangs on it.
 fn join_row(work: &mut [u16], to: usize, from: usize, k: usize)
     requires { ⌜ (to + k ≤ length (now work)) × (from + k ≤ to) ⌝ }
@@ -26,7 +20,7 @@ fn join_row(work: &mut [u16], to: usize, from: usize, k: usize)
     while q < k {
         let here = work[to + q];
         let far = work[from + q];
-        work[to + q] = greater(here, far);
+        work[to + q] = rules::greater(here, far);
         q += 1;
     }
 }

@@ -1,4 +1,5 @@
 // What every other crate speaks of: the limits, the head of an index, and the numbered refusals.
+ghost use Prim.Native.Nat.{max};
 ghost use mathlib.Core.Path.{_≡_};
 ghost use Rattle.rules.specs.Limits.{limits};
 ghost use Rattle.rules.specs.Refusals.{numberOf, placeOf};
@@ -29,6 +30,13 @@ pub fn the_limits() -> Limits
         needs: MAX_NEEDS,
         lines: MAX_LINES,
     }
+}
+
+// The greater of two numbers of 16 bits.
+pub fn greater(a: u16, b: u16) -> u16
+    ensures { λ r. ⌜ r ≡ max a b ⌝ }
+{
+    if a < b { b } else { a }
 }
 
 // The head of an index: the length of each track, 0 beyond the last, and the counts of units and tracks. C reads it as it lies.
