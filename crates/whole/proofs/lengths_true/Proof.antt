@@ -66,11 +66,10 @@ loop-again c =
     let counted = s .track-lengths .ensures in
     let right = length-right (a .lens .now) (a .k) (a .tracks .now) (s .track-lengths .result) counted q h in
     let miscounted = length-miscounted (a .lens .now) (a .k) (a .tracks .now) (s .track-lengths .result) counted q h in
-    let misused = length-misused (a .lens .now) (a .k) (a .tracks .now) (s .track-lengths .result) counted q h in
-    (
+    let misused = length-misused (a .lens .now) (a .k) (a .tracks .now) (s .track-lengths .result) counted q h in (
       omega arith,
       ⊎-elim (λ w. w .1 ∙ turn-wrong p q (⊎-elim (λ t. miscounted (t .taken)) (λ t. misused (t .2 .taken)) (w .0 .came)))
-      (λ w. w .3 ∙ l .loop .inv .1 ∙ turn-right p q (right (w .0 .left) (w .2 .left))) (c .if1 .came),
+          (λ w. w .3 ∙ l .loop .inv .1 ∙ turn-right p q (right (w .0 .left) (w .2 .left))) (c .if1 .came),
     )
 
 returns : tie.Need-returns Inv-loop μ-loop
