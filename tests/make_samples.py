@@ -1,8 +1,9 @@
 #!/usr/bin/env python3
 """Writes the courses of samples/ that are too regular to keep by hand: each NAME.course with NAME.printed, what the program must print, by the walk
-of tests/walk.py. The small ones are kept as they are written here, so that a reader can follow them."""
+of tests/walk.py. The small ones are kept as they are written here, so that a reader can follow them. --check writes nothing and compares."""
 import pathlib
 import random
+import sys
 
 import walk
 
@@ -65,8 +66,28 @@ FILES = {
     "refusal-12-line": course(1, 1, [0], [], [("10", 1, 1)] * 65533),
 }
 
-if __name__ == "__main__":
-    here.mkdir(exist_ok=True)
+
+def wanted():
+    """Yields each file of samples/ with what it must hold."""
     for name, text in FILES.items():
-        (here / (name + ".course")).write_bytes(text.encode())
-        (here / (name + ".printed")).write_bytes(walk.prints(text.encode()))
+        yield here / (name + ".course"), text.encode()
+        yield here / (name + ".printed"), walk.prints(text.encode())
+
+
+def check():
+    """Whether samples/ holds these files, as they are made here, and no others."""
+    made = dict(wanted())
+    wrong = [path.name for path, text in made.items() if not path.is_file() or path.read_bytes() != text]
+    wrong += [path.name for path in here.iterdir() if path not in made]
+    for name in wrong:
+        print(f"samples/{name} is not as tests/make_samples.py makes it")
+    print(f"{len(made) - len(wrong)} passed, {len(wrong)} failed")
+    return 1 if wrong else 0
+
+
+if __name__ == "__main__":
+    if sys.argv[1:] == ["--check"]:
+        sys.exit(check())
+    here.mkdir(exist_ok=True)
+    for path, text in wanted():
+        path.write_bytes(text)
