@@ -5,7 +5,8 @@
  * the track list that it was built from, the words and the directory.
  *
  * Every call ends, on every input, with an answer or a numbered refusal; none looks at anything but its arguments, keeps
- * anything, takes memory or calls anything. No call trusts an index: each question judges it first.
+ * anything or takes memory, and none calls anything but the memcpy and memset that a compiler puts in. No call trusts an
+ * index: each question judges it first.
  *
  * Areas are lent as a pointer and a count of entries. What a caller owes, since C cannot tell: each pointer is aligned
  * for its entries, not null (an area of no entries may be any such address), and good for its count; and an area that a
