@@ -1,12 +1,12 @@
 -- What the answer to each question is on an index that is whole.
 -- Assumes nothing.
-use Prim.Native.Nat.{ℕ, _+_, _≤_, _<_}
+use Prim.Native.Nat.{ℕ, _+_, _-_, _≤_, _<_}
 use mathlib.Core.Path.{_≡_, refl, ap, _∙_}
 use mathlib.Core.Bool.{Bool, true, false, cond}
 use mathlib.Core.List.{List}
 use mathlib.Core.Logic.{_⊎_, inl, inr}
 use native.Mathlib.Omega.{arith}
-use lib.ListN.{length, take, drop, length-take}
+use lib.ListN.{length, getD, take, drop, length-take}
 use lib.Seq.{take-append-seam}
 use lib.Dec.{eqb}
 use borrow.Author.Tests.{ne-eqb, le-leb, le-ltb, lt-ltb}
@@ -19,13 +19,14 @@ use Rattle.rules.specs.Ranges.{over}
 use Rattle.rules.specs.Index.{Index}
 use Rattle.rules.specs.Questions.{kind16, kind17, kind18}
 use Rattle.rules.specs.Outcomes.{ListOutcome, unitVerdict, trackVerdict, wholeVerdict, yesOrNo, pairOutcome, unitOutcome, boundOutcome, listRoom, writtenFrom, listAnswer}
+use Rattle.rules.proofs.Ranges.{getD-table}
 use Rattle.rules.proofs.Verdicts.{is-within, not-within, fine-unless, refused-unless}
 use Rattle.known.specs.Asked.{UnitOf}
 use Rattle.frames.specs.Printed.{refusedLine, listLine}
 use Rattle.frames.proofs.Lengths.{length-refused, length-list}
 use Rattle.card.specs.declared.Card.{Card}
 use Rattle.card.specs.Card.{listPrinted}
-use Rattle.card.specs.Held.{asked, Ready, numberAsked, answerLine, counts}
+use Rattle.card.specs.Held.{asked, Ready, stagesOf, numberAsked, answerLine, counts}
 
 -- the answer of a list question with the area that it leaves
 abbrev outcome : NumberAnswer → List ℕ → ListOutcome
@@ -114,6 +115,11 @@ module _ {card : Card} {tracks words directory : List ℕ} (ready : Ready card t
     pub number-first : (u ≡ 0) ⊎ (card .n < u) → numberAsked x kind u q ≡ number.Refused (BadArgument 1)
     unfolding unitOutcome boundOutcome
     number-first h = rw (whole-fine, unit-bad 1 h, cond-same (eqb kind 0x17), cond-same (eqb kind 0x16))
+
+    pub stage-read : UnitOf tracks u → {stages : List ℕ} → stages ≡ stagesOf x → getD stages (u - 1) 0 ≡ kind16 x u
+    stage-read h e =
+        let f : u - 1 + 1 ≡ u = omega (arith, h .from) in
+        rw e (getD-table (λ i. kind16 x (i + 1)) (length tracks) (u - 1) (omega (arith, h .from, h .to)) ∙ ap (kind16 x) f)
 
     pub number-stage : kind ≡ 0x16 → UnitOf tracks u → numberAsked x kind u q ≡ number.Number (kind16 x u)
     unfolding unitOutcome

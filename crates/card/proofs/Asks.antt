@@ -1,7 +1,7 @@
 -- A question frame: which kinds are questions, what each asks for, and that a card with a built index is ready for them.
 -- Assumes nothing.
-use Prim.Native.Nat.{ℕ, _≤_, _<_}
-use mathlib.Core.Path.{_≡_, refl, subst}
+use Prim.Native.Nat.{ℕ, _*_, _≤_, _<_}
+use mathlib.Core.Path.{_≡_, refl, sym, ap, _∙_, subst}
 use mathlib.Core.Bool.{true, false, cond}
 use mathlib.Core.List.{List}
 use mathlib.Core.Logic.{inl, inr}
@@ -18,12 +18,14 @@ use Rattle.rules.proofs.Verdicts.{is-within, not-within}
 use Rattle.rules.proofs.Ranges.{not-both}
 use Rattle.rules.proofs.Accepted.{listing-fine}
 use Rattle.rules.proofs.Builts.{built-whole}
+use Rattle.stages.specs.Stages.{stageTable}
+use Rattle.stages.proofs.Lasts.{stages-built}
 use Rattle.frames.specs.Printed.{pairLine, numberLine}
 use Rattle.card.specs.declared.Card.{Card}
 use Rattle.card.specs.declared.Phase.{Phase}
 use Rattle.card.specs.declared.Phase.the-variants.{Head, Tracks, Needs, Asking, Stopped}
 use Rattle.card.specs.Card.{Reading, listingOf, indexOf, misplaced, answered, listPrinted, questionFrame}
-use Rattle.card.specs.Held.{Areas, areas, readingOf, Settled, Roomy, Fit, Took, asked, Ready, isQuestion, unitsAsked, numberAsked}
+use Rattle.card.specs.Held.{Areas, areas, readingOf, Settled, Roomy, Fit, Took, asked, Ready, stagesOf, isQuestion, unitsAsked, numberAsked}
 use Rattle.rules.specs.Ranges.{over}
 use Rattle.card.proofs.Answers.{cond-same}
 use Rattle.card.proofs.Cards.{took}
@@ -168,6 +170,7 @@ settled-kept Asking card ts needs ws ds work list lines list′ s =
         directory-is = l .directory-is;
         lens-are = l .lens-are;
         starts = l .starts;
+        stages-are = l .stages-are;
       },
     )
 settled-kept Stopped card ts needs ws ds work list lines list′ s = s
@@ -247,3 +250,12 @@ module _ {card : Card} {ts needs ws ds work list : List ℕ} (fit : Fit card (ar
           units-are = units-held;
           units-few = omega (arith, units-held, loaded .0 .n-in);
         }
+
+    -- and the stages at the start of the work area are its own
+    pub staged : take (card .units) work ≡ stagesOf (asked card (take (card .units) ts) (take (card .count) ws) (take (card .count) ds))
+    unfolding builtIndex builtHead
+    staged =
+        loaded .2 .stages-are
+        ∙ ap (stageTable (take (2 * card .pairs) needs)) (loaded .1)
+        ∙ sym (stages-built course (listing-fine course (loaded .2 .accepted)) (loaded .2 .sound))
+        ∙ ap stagesOf index-is

@@ -1,6 +1,6 @@
 -- The end of a listing, 04: over areas with room for any course a build refuses what the listing is refused for, and else leaves the index.
 -- Assumes nothing.
-use Prim.Native.Nat.{ℕ, _≤_}
+use Prim.Native.Nat.{ℕ, _*_, _≤_}
 use mathlib.Core.Path.{_≡_, refl, sym, ap, _∙_}
 use mathlib.Core.Bool.{_&&_}
 use mathlib.Core.List.{List}
@@ -16,14 +16,17 @@ use Rattle.rules.specs.declared.Verdict.{Verdict}
 use Rattle.rules.specs.declared.Verdict.the-variants.{Fine, Refused}
 use Rattle.rules.specs.Refusals.{_then_}
 use Rattle.rules.specs.Ranges.{table, over}
-use Rattle.rules.specs.Listing.{Listing, size, listingVerdict}
+use Rattle.rules.specs.Listing.{Listing, size, pairsVerdict, listingVerdict}
 use Rattle.rules.specs.Order.{soundVerdict}
 use Rattle.rules.specs.Index.{builtCount, builtWords, builtDirectory, builtHead, builtBits}
 use Rattle.rules.specs.Outcomes.{BuildOutcome, roomVerdict, filledVerdict, buildVerdict, buildOutcome}
 use Rattle.rules.proofs.Verdicts.{and-both, not-yes, then-fine}
+use Rattle.rules.proofs.Needs.{fine-pairs}
 use Rattle.rules.proofs.Accepted.{Accepted, listing-fine}
 use Rattle.rules.proofs.Layouts.{words-most}
 use Rattle.rules.proofs.Builts.{units-built, length-words, length-directory}
+use Rattle.stages.specs.Stages.{stageTable}
+use Rattle.stages.proofs.Lasts.{length-stages}
 use Rattle.build.specs.Ones.{outcome}
 use Rattle.build.proofs.Ones.{rows-count}
 use Rattle.build.proofs.Outcomes.{room-enough}
@@ -34,6 +37,21 @@ use Rattle.card.specs.declared.Phase.the-variants.{Needs}
 use Rattle.card.specs.Card.{listingOf, misplaced, refuse, loaded, endFrame, reads}
 use Rattle.card.specs.Held.{Areas, areas, readingOf, loadedCard, Settled, Roomy, Fit, Took}
 use Rattle.card.proofs.Cards.{needs-held, took}
+
+-- what an accepted build says of its listing
+module _ (c : Listing) (words directory work : List ℕ) {built : Built} {words′ directory′ work′ : List ℕ}
+    (done : outcome built words′ directory′ work′ ≡ buildOutcome c words directory work) where
+  pub outcome-verdict : built .verdict ≡ buildVerdict c words directory work
+  unfolding buildOutcome
+  outcome-verdict = ap (λ (o : BuildOutcome). o .answer .verdict) done
+
+  -- so its pairs are in order over as many units as there are tracks
+  pub build-pairs : {units : ℕ} → built .verdict ≡ Fine → length (c .tracks) ≡ units → (pairsVerdict units (c .needs) ≡ Fine) × (units ≤ 1024)
+  unfolding buildVerdict filledVerdict
+  build-pairs fine e =
+      let v = then-fine (filledVerdict c words directory work) (soundVerdict c) (sym outcome-verdict ∙ fine) in
+      let a = listing-fine c (then-fine (listingVerdict c) (roomVerdict c words directory work) (v .0) .0) in
+      rw (sym e ∙ a .tracks-long) (fine-pairs (c .n) (c .needs) (a .needs-pairs), a .n-in .1)
 
 -- W of an accepted listing
 pub words-few : {c : Listing} → Accepted c → builtCount c ≤ 992
@@ -58,6 +76,25 @@ module _ {card : Card} {tracks needs words directory work list : List ℕ} (fit 
               let both = and-both (eqb count (card .pairs)) (eqb filler 0) t in
               h (eqb-true count (card .pairs) (both .0)) (eqb-true filler 0 (both .1))),
         )
+
+  -- areas of the same lengths
+  pub built-room : {words′ directory′ work′ : List ℕ} → length words′ ≡ length words → length directory′ ≡ length directory → length work′ ≡ length work
+      → Roomy card (areas tracks needs words′ directory′ work′ list)
+  built-room long long′ long″ =
+      let r = fit .room in
+      record {
+        lines-few = r .lines-few;
+        pairs-few = r .pairs-few;
+        units-few = r .units-few;
+        areas-room = record {
+          track-room = r .areas-room .track-room;
+          need-room = r .areas-room .need-room;
+          word-room = omega arith;
+          directory-room = omega arith;
+          work-room = omega arith;
+          list-room = r .areas-room .list-room;
+        };
+      }
 
   -- ---- the verdict of the build
 
@@ -86,92 +123,74 @@ module _ {card : Card} {tracks needs words directory work list : List ℕ} (fit 
   module _ {built : Built} {words′ directory′ work′ : List ℕ}
       (done : outcome built words′ directory′ work′ ≡ buildOutcome course words directory work)
       (count filler : ℕ) (right : count ≡ card .pairs) (empty : filler ≡ 0) where
-    abbrev holding : Areas
-    holding = areas tracks needs words′ directory′ work′ list
-
-    verdict-is : built .verdict ≡ buildVerdict course words directory work
-    unfolding buildOutcome
-    verdict-is = ap (λ (o : BuildOutcome). o .answer .verdict) done
-
     pub end-refused : {refusal : Refusal} → built .verdict ≡ Refused refusal
         → endFrame (readingOf card held) count filler ≡ refuse (readingOf card held) refusal
     unfolding loaded
-    end-refused h = end-loads count filler right empty ∙ rw (sym verdict-is ∙ h)
+    end-refused h = end-loads count filler right empty ∙ rw (sym (outcome-verdict course words directory work done) ∙ h)
 
-    module _ (long : length words′ ≡ length words) (long′ : length directory′ ≡ length directory) (long″ : length work′ ≡ length work) where
-      pub built-room : Roomy card holding
-      built-room =
-          let r = fit .room in
+    -- the stages stand over the start of the work area
+    module _ {work″ : List ℕ} (long : length words′ ≡ length words) (long′ : length directory′ ≡ length directory) (long″ : length work″ ≡ length work)
+        (staged : work″ ≡ over work′ (stageTable (take (2 * card .pairs) needs) (card .units)))
+        (e : card .phase ≡ Needs) (fine : built .verdict ≡ Fine) where
+      abbrev holding : Areas
+      holding = areas tracks needs words′ directory′ work″ list
+
+      built-fine : buildVerdict course words directory work ≡ Fine
+      built-fine = sym (outcome-verdict course words directory work done) ∙ fine
+
+      pub listing-accepted : listingVerdict course ≡ Fine
+      listing-accepted = then-fine (listingVerdict course) (soundVerdict course) (sym build-verdict ∙ built-fine) .0
+
+      built-words : words′ ≡ over words (builtWords course)
+      unfolding buildOutcome
+      built-words = ap (λ (o : BuildOutcome). o .words) done ∙ rw built-fine
+
+      built-directory : directory′ ≡ over directory (builtDirectory course)
+      unfolding buildOutcome
+      built-directory = ap (λ (o : BuildOutcome). o .directory) done ∙ rw built-fine
+
+      built-lens : built .head .lens ≡ table (size (take (card .units) tracks)) 32
+      unfolding buildOutcome builtHead
+      built-lens = ap (λ (o : BuildOutcome). o .answer .head .lens) done ∙ rw built-fine
+
+      bits-are : built .bits ≡ builtBits course
+      unfolding buildOutcome
+      bits-are = ap (λ (o : BuildOutcome). o .answer .bits) done ∙ rw built-fine
+
+      load-fit : Fit (loadedCard card (built .head .lens)) holding
+      unfolding over
+      load-fit =
+          let s : Settled Needs card held = rw e at (fit .settled) in
+          let left : reads Needs ≡ mathlib.Core.Bool.true → card .lines ≤ 65535 = rw e at (fit .lines-left) in
+          let count-is = rows-count _ (listing-fine course listing-accepted) built-lens refl .1 in
+          let room : Roomy card holding = built-room long long′ long″ in
           record {
-            lines-few = r .lines-few;
-            pairs-few = r .pairs-few;
-            units-few = r .units-few;
-            areas-room = record {
-              track-room = r .areas-room .track-room;
-              need-room = r .areas-room .need-room;
-              word-room = omega arith;
-              directory-room = omega arith;
-              work-room = omega arith;
-              list-room = r .areas-room .list-room;
+            room = record {
+              lines-few = room .lines-few;
+              pairs-few = room .pairs-few;
+              units-few = room .units-few;
+              areas-room = room .areas-room;
             };
+            lines-left = left;
+            settled = (
+              s .0,
+              s .1,
+              record {
+                accepted = listing-accepted;
+                sound = then-fine (listingVerdict course) (soundVerdict course) (sym build-verdict ∙ built-fine) .1;
+                count-is = count-is;
+                words-are = rw (built-words, count-is) (take-at (builtWords course) _ _ (length-words course));
+                directory-is = rw (built-directory, count-is) (take-at (builtDirectory course) _ _ (length-directory course));
+                lens-are = built-lens;
+                starts = refl;
+                stages-are = rw staged (take-at (stageTable (take (2 * card .pairs) needs) (card .units)) _ _ (length-stages (take (2 * card .pairs) needs) (card .units)));
+              },
+            );
           }
 
-      module _ (e : card .phase ≡ Needs) (fine : built .verdict ≡ Fine) where
-        built-fine : buildVerdict course words directory work ≡ Fine
-        built-fine = sym verdict-is ∙ fine
-
-        pub listing-accepted : listingVerdict course ≡ Fine
-        listing-accepted = then-fine (listingVerdict course) (soundVerdict course) (sym build-verdict ∙ built-fine) .0
-
-        built-words : words′ ≡ over words (builtWords course)
-        unfolding buildOutcome
-        built-words = ap (λ (o : BuildOutcome). o .words) done ∙ rw built-fine
-
-        built-directory : directory′ ≡ over directory (builtDirectory course)
-        unfolding buildOutcome
-        built-directory = ap (λ (o : BuildOutcome). o .directory) done ∙ rw built-fine
-
-        built-lens : built .head .lens ≡ table (size (take (card .units) tracks)) 32
-        unfolding buildOutcome builtHead
-        built-lens = ap (λ (o : BuildOutcome). o .answer .head .lens) done ∙ rw built-fine
-
-        bits-are : built .bits ≡ builtBits course
-        unfolding buildOutcome
-        bits-are = ap (λ (o : BuildOutcome). o .answer .bits) done ∙ rw built-fine
-
-        load-fit : Fit (loadedCard card (built .head .lens)) holding
-        unfolding over
-        load-fit =
-            let s : Settled Needs card held = rw e at (fit .settled) in
-            let left : reads Needs ≡ mathlib.Core.Bool.true → card .lines ≤ 65535 = rw e at (fit .lines-left) in
-            let count-is = rows-count _ (listing-fine course listing-accepted) built-lens refl .1 in
-            let room = built-room in
-            record {
-              room = record {
-                lines-few = room .lines-few;
-                pairs-few = room .pairs-few;
-                units-few = room .units-few;
-                areas-room = room .areas-room;
-              };
-              lines-left = left;
-              settled = (
-                s .0,
-                s .1,
-                record {
-                  accepted = listing-accepted;
-                  sound = then-fine (listingVerdict course) (soundVerdict course) (sym build-verdict ∙ built-fine) .1;
-                  count-is = count-is;
-                  words-are = rw (built-words, count-is) (take-at (builtWords course) _ _ (length-words course));
-                  directory-is = rw (built-directory, count-is) (take-at (builtDirectory course) _ _ (length-directory course));
-                  lens-are = built-lens;
-                  starts = refl;
-                },
-              );
-            }
-
-        pub took-end : {before out : List ℕ} → out ≡ over before (builtLine (built .bits))
-            → Took (endFrame (readingOf card held) count filler) before (record { card = loadedCard card (built .head .lens); wrote = 15 }) holding out
-        unfolding loaded
-        took-end o =
-            rw (end-loads count filler right empty, built-fine, ← bits-are)
-            (took (builtLine (built .bits)) o (sym (length-built (built .bits))) (omega arith) load-fit)
+      pub took-end : {before out : List ℕ} → out ≡ over before (builtLine (built .bits))
+          → Took (endFrame (readingOf card held) count filler) before (record { card = loadedCard card (built .head .lens); wrote = 15 }) holding out
+      unfolding loaded
+      took-end o =
+          rw (end-loads count filler right empty, built-fine, ← bits-are)
+          (took (builtLine (built .bits)) o (sym (length-built (built .bits))) (omega arith) load-fit)

@@ -15,6 +15,7 @@ use Rattle.rules.specs.Index.{Index, lensOf, builtCount, builtWords, builtDirec
 use Rattle.rules.specs.Questions.{kind12, kind13, kind14, kind15, kind16, kind17, kind18}
 use Rattle.rules.specs.Outcomes.{unitOutcome, boundOutcome}
 use Rattle.layout.specs.Starts.{rowStarts}
+use Rattle.stages.specs.Stages.{stageTable}
 use Rattle.known.specs.Asked.{parts, Sure}
 use Rattle.frames.specs.Printed.{refusedLine, listLine}
 use Rattle.card.specs.declared.Card.{Card}
@@ -101,7 +102,7 @@ pub record Limited (n k : ℕ) : Type 0 where
   pub n-in : (1 ≤ n) × (n ≤ 1024)
   pub k-in : (1 ≤ k) × (k ≤ 32)
 
--- the listing is accepted, and the index lies in the areas
+-- the listing is accepted, the index lies in the areas, and the work area begins with the stages
 pub record Loaded (card : Card) (a : Areas) : Type 0 where
   pub accepted : listingVerdict (listingOf (readingOf card a)) ≡ Fine
   pub sound : soundVerdict (listingOf (readingOf card a)) ≡ Fine
@@ -110,6 +111,7 @@ pub record Loaded (card : Card) (a : Areas) : Type 0 where
   pub directory-is : take (card .count) (a .directory) ≡ builtDirectory (listingOf (readingOf card a))
   pub lens-are : card .lens ≡ table (size (take (card .units) (a .tracks))) 32
   pub starts : card .row ≡ rowStarts (lensOf (card .lens)) (card .k)
+  pub stages-are : take (card .units) (a .work) ≡ stageTable (take (2 * card .pairs) (a .needs)) (card .units)
 
 abbrev pub Settled : Phase → Card → Areas → Type 0
 Settled Head card a = (card .units ≡ 0) × (card .pairs ≡ 0)
@@ -163,6 +165,10 @@ pub record Ready (card : Card) (tracks words directory : List ℕ) : Type 0 wher
   pub sure : Sure (asked card tracks words directory) (card .row)
   pub units-are : length tracks ≡ card .n
   pub units-few : length tracks ≤ 1024
+
+-- the stage of each unit
+abbrev pub stagesOf : Index → List ℕ
+stagesOf x = table (λ i. kind16 x (i + 1)) (x .head .n)
 
 -- kinds 10 to 18, of which 12 to 16 carry 0 second
 abbrev pub isQuestion : ℕ → ℕ → Bool

@@ -18,7 +18,7 @@ ghost use Rattle.rules.specs.Questions.{kind10, kind11};
 ghost use Rattle.frames.specs.Printed.{builtLine};
 ghost use Rattle.card.specs.Card as rule;
 ghost use Rattle.card.specs.Files.{fed, restPrinted};
-ghost use Rattle.card.specs.Held.{Areas, areas, readingOf, freshCard, cardIn, loadedCard, Roomy, Fit, next, Took, asked, Ready, isQuestion, unitsAsked, numberAsked, answerLine, counts};
+ghost use Rattle.card.specs.Held.{Areas, areas, readingOf, freshCard, cardIn, loadedCard, Roomy, Fit, next, Took, asked, Ready, stagesOf, isQuestion, unitsAsked, numberAsked, answerLine, counts};
 
 // Where in the order of frames a file stands.
 pub enum Phase {
@@ -34,7 +34,8 @@ pub enum Phase {
     Stopped,
 }
 
-// What has been read. The listing itself lies in the lent areas: `units` tracks and `pairs` needs; and once it is built, `count` words.
+// What has been read. The listing itself lies in the lent areas: `units` tracks and `pairs` needs; and once it is built, `count` words, and
+// the stages of the units at the start of the work area, which the build no longer needs.
 pub struct Card {
     pub phase: Phase,
     pub lines: u32,
@@ -200,7 +201,7 @@ fn end_frame(
     work: &mut [u16],
     out: &mut [u8],
 ) -> Step
-    requires { ⌜ (card .units ≤ length (now tracks)) × (2 * card .pairs ≤ length (now needs)) × (card .k ≤ 32) × (20 ≤ length (now out)) ⌝ }
+    requires { ⌜ (card .units ≤ length (now tracks)) × (2 * card .pairs ≤ length (now needs)) × (card .k ≤ 32) × (20 ≤ length (now out)) × (card .units ≤ length (now work)) ⌝ }
     ensures { λ r. ⌜ ((list : List ℕ) → card .phase ≡ Phase.Needs → Fit card (areas (now (tracks .entry)) (now (needs .entry)) (now (words .entry)) (now (directory .entry)) (now (work .entry)) list) → Took (rule.endFrame (readingOf card (areas (now (tracks .entry)) (now (needs .entry)) (now (words .entry)) (now (directory .entry)) (now (work .entry)) list)) count filler) (now (out .entry)) r (areas (now (tracks .entry)) (now (needs .entry)) (now (words .exit)) (now (directory .exit)) (now (work .exit)) list) (now (out .exit))) ⌝ }
 {
     let units = card.units;
@@ -222,6 +223,7 @@ fn end_frame(
         return refuse(card, refusal, out);
     }
     let lens = built.head.lens;
+    stages::fill_stages(&needs[..numbers], &mut work[..units]);
     load(card, lens, built.bits, out)
 }
 
@@ -298,8 +300,10 @@ fn number_answer(
     tracks: &[u16],
     words: &[u64],
     directory: &[u16],
+    stages: &[u16],
 ) -> NumberAnswer
     requires { ⌜ Ready card (now tracks) (now words) (now directory) ⌝ }
+    requires { ⌜ now stages ≡ stagesOf (asked card (now tracks) (now words) (now directory)) ⌝ }
     ensures { λ r. ⌜ r ≡ numberAsked (asked card (now (tracks .entry)) (now (words .entry)) (now (directory .entry))) kind u q ⌝ }
 {
     let lens = card.lens;
@@ -309,7 +313,9 @@ fn number_answer(
         return NumberAnswer::Refused(Refusal::BadArgument(1));
     }
     if kind == 0x16 {
-        return NumberAnswer::Number(known::stage(tracks, words, directory, &lens, &row, k, u));
+        let i = u as usize - 1;
+        let stage = stages[i];
+        return NumberAnswer::Number(stage);
     }
     if card.k <= q {
         return NumberAnswer::Refused(Refusal::BadArgument(2));
@@ -364,10 +370,12 @@ fn question_frame(
     tracks: &[u16],
     words: &[u64],
     directory: &[u16],
+    stages: &[u16],
     list: &mut [u16],
     out: &mut [u8],
 ) -> Step
     requires { ⌜ Ready card (now tracks) (now words) (now directory) ⌝ }
+    requires { ⌜ now stages ≡ stagesOf (asked card (now tracks) (now words) (now directory)) ⌝ }
     requires { ⌜ (1024 ≤ length (now list)) × (5125 ≤ length (now out)) ⌝ }
     ensures { λ r. ⌜ ((ts needs ws ds work : List ℕ) → Fit card (areas ts needs ws ds work (now (list .entry))) → rule.indexOf (readingOf card (areas ts needs ws ds work (now (list .entry)))) ≡ asked card (now (tracks .entry)) (now (words .entry)) (now (directory .entry)) → Took (rule.questionFrame (readingOf card (areas ts needs ws ds work (now (list .entry)))) kind a b) (now (out .entry)) r (areas ts needs ws ds work (now (list .exit))) (now (out .exit))) ⌝ }
 {
@@ -388,7 +396,7 @@ fn question_frame(
             wrote: put_answer(answer, list, out),
         };
     }
-    let answer = number_answer(card, kind, a, b, tracks, words, directory);
+    let answer = number_answer(card, kind, a, b, tracks, words, directory, stages);
     Step {
         card,
         wrote: frames::put_number(out, answer),
@@ -484,6 +492,7 @@ fn frame_in_phase(
                 &tracks[..units],
                 &words[..count],
                 &directory[..count],
+                &work[..units],
                 list,
                 out,
             )

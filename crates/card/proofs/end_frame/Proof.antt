@@ -1,11 +1,18 @@
--- `card::end_frame`: a count or a filler that is wrong is out of order; else the build refuses the listing, or leaves the index.
+-- `card::end_frame`: a count or a filler that is wrong is out of order; else the build refuses the listing, or leaves the index,
+-- and the stages stand over the start of the work area.
 -- Assumes nothing.
-use mathlib.Core.Path.{_≡_, sym}
+use Prim.Native.Nat.{_*_}
+use mathlib.Core.Path.{_≡_, sym, ap, _∙_}
 use mathlib.Core.Logic.{⊎-elim}
+use native.Mathlib.Omega.{arith}
+use lib.ListN.{take}
 use lib.Seq.{length-take-le}
 use lib.Dec.{eqb}
 use borrow.Author.Tests.{eqb-true, eqb-false, not-true, not-false}
-use Rattle.card.proofs.Ends.{end-misplaced, end-refused, built-room, took-end}
+use Rattle.rules.proofs.Ranges.{over-part}
+use Rattle.stages.specs.Stages.{stageTable}
+use Rattle.stages.proofs.Lasts.{length-stages}
+use Rattle.card.proofs.Ends.{end-misplaced, end-refused, built-room, build-pairs, took-end}
 use borrow.Author.Needs.{needs}
 use Rattle.card.proofs.end_frame.Statement.{statement}
 use Rattle.card.proofs.end_frame.Tie as tie
@@ -74,13 +81,32 @@ returns-2 c = λ list e h.
     let s = start b .args in
     let done = b .before .before .before .before .before .before .build .ensures in
     rw (end-refused h done (s .count) (s .filler) (right b) (empty b) (c .before .before .before .before .before .verdict .given .1))
-    (c .before .before .refuse .ensures _ (built-room h done (s .count) (s .filler) (right b) (empty b) (same-length-2 c) (same-length-3 c) (same-length-4 c)))
+    (c .before .before .refuse .ensures _ (built-room h (same-length-2 c) (same-length-3 c) (same-length-4 c)))
 
 enum-told : tie.Need-enum-told
 enum-told c = search needs
 
+-- the work area holds an entry for each unit
+work-room : tie.Need-slice-relend-prefix-fill-stages
+work-room c = omega (arith, start (c .before .before .before .before) .pre .4)
+
+-- and the part that is lent has no more
+work-part : tie.Need-slice-aggregate-fill-stages-2
+work-part c = sym (length-take-le _ _ (work-room (c .before)))
+
+slice-aggregate-fill-stages : tie.Need-slice-aggregate-fill-stages
+slice-aggregate-fill-stages c = sym (length-take-le _ _ (start (c .before .before .before .before) .pre .1))
+
+fill-stages-requires : tie.Need-fill-stages-requires
+fill-stages-requires c κs =
+    let b = c .before .before .before .before .before in
+    build-pairs _ _ _ _ (b .before .before .before .before .before .before .build .ensures) (c .before .before .before .enum-told .given .1)
+    (length-take-le _ _ (start b .pre .0) ∙ work-part c)
+
 load-requires : tie.Need-load-requires
-load-requires c κs = (start (c .before .before .before .before) .pre .2, start (c .before .before .before .before) .pre .3)
+load-requires c κs =
+    let s = start (c .before .before .before .before .before .before .before .before .before) in
+    (s .pre .2, s .pre .3)
 
 same-length-6 : tie.Need-same-length-6
 same-length-6 c = search needs
@@ -96,10 +122,14 @@ same-length-9 c = search needs
 
 returns-3 : tie.Need-returns-3
 returns-3 c = λ list e h.
-    let b = c .before .before .before .before .before .before .before in
+    let b = c .before .before .before .before .before .before .before .before .before .before .before .before in
     let s = start b .args in
+    let filled = c .before .before .before .before .before .before in
+    let stages = stageTable (take (2 * s .card .pairs) (s .needs .now)) in
+    let staged =
+    over-part _ _ (stages (s .card .units)) _ (filled .fill-stages .ensures ∙ ap stages (sym (work-part (filled .before)))) (length-stages _ _) in
     rw (c .before .before .load .ensures .0)
-    (took-end h (b .before .before .before .before .before .before .build .ensures) (s .count) (s .filler) (right b) (empty b) (same-length-6 c) (same-length-7 c) (same-length-8 c) e (c .before .before .before .before .before .enum-told .given .1) (c .before .before .load .ensures .1))
+    (took-end h (b .before .before .before .before .before .before .build .ensures) (s .count) (s .filler) (right b) (empty b) (same-length-6 c) (same-length-7 c) (same-length-8 c) staged e (c .before .before .before .before .before .before .before .before .before .before .enum-told .given .1) (c .before .before .load .ensures .1))
 
 pub end-frame-spec : {M : Type 1} → statement M
 end-frame-spec =
@@ -120,6 +150,10 @@ end-frame-spec =
     same-length-5
     returns-2
     enum-told
+    slice-aggregate-fill-stages
+    work-room
+    work-part
+    fill-stages-requires
     load-requires
     same-length-6
     same-length-7

@@ -8,7 +8,7 @@ use lib.Seq.{length-take-le}
 use Rattle.card.specs.Card.{Reading}
 use Rattle.card.specs.Held.{Areas, areas, readingOf}
 use Rattle.card.proofs.Cards.{took-nothing}
-use Rattle.card.proofs.Asks.{index-is, ready}
+use Rattle.card.proofs.Asks.{index-is, ready, staged}
 use Rattle.card.proofs.Turns.{head-taken, head-not, track-taken, track-not, need-taken, end-taken, need-not, question-taken, stopped-taken, tracks-left, tracks-few, count-few}
 use borrow.Author.Needs.{needs}
 use Rattle.card.proofs.frame_in_phase.Statement.{statement}
@@ -91,7 +91,7 @@ end-frame-requires : tie.Need-end-frame-requires
 end-frame-requires c κs =
     let s = c .before .before .before .before .before .before .before .before .before .before .before .before .before .before .before .before .before .before .before in
     let r = s .pre .0 .room in
-    (omega arith, omega arith, tracks-few (s .pre .0) (c .before .before .before .before .before .before .before .before .before .before .enum-told3 .given .1), enough s)
+    (omega arith, omega arith, tracks-few (s .pre .0) (c .before .before .before .before .before .before .before .before .before .before .enum-told3 .given .1), enough s, omega arith)
 
 enum-told-4 : tie.Need-enum-told-4
 enum-told-4 c = search needs
@@ -120,10 +120,17 @@ slice-reshare-prefix-question-frame-3 c = directory-there (c .before .before)
 slice-aggregate-question-frame-3 : tie.Need-slice-aggregate-question-frame-3
 slice-aggregate-question-frame-3 c = sym (length-take-le _ _ (directory-there (c .before .before .before)))
 
+stages-there : tie.Need-slice-reshare-prefix-question-frame-4
+stages-there c = let r = c .before .before .before .before .before .before .before .before .before .before .before .before .pre .0 .room in omega (arith, r .units-few, r .areas-room .work-room)
+
+slice-aggregate-question-frame-4 : tie.Need-slice-aggregate-question-frame-4
+slice-aggregate-question-frame-4 c = sym (length-take-le _ _ (stages-there (c .before)))
+
 question-frame-requires : tie.Need-question-frame-requires
 question-frame-requires c κs =
-    let s = c .before .before .before .before .before .before .before .before .before .before .before .before .before .before in
-    (ready (s .pre .0) (c .before .before .before .before .before .enum-told4 .given .1), (s .pre .0 .room .areas-room .list-room, s .pre .1))
+    let s = c .before .before .before .before .before .before .before .before .before .before .before .before .before .before .before in
+    let asking = c .before .before .before .before .before .before .enum-told4 .given .1 in
+    (ready (s .pre .0) asking, (staged (s .pre .0) asking, (s .pre .0 .room .areas-room .list-room, s .pre .1)))
 
 enum-told-5 : tie.Need-enum-told-5
 enum-told-5 c = search needs
@@ -185,10 +192,13 @@ same-length-18 c = search needs
 same-length-19 : tie.Need-same-length-19
 same-length-19 c = search needs
 
+same-length-20 : tie.Need-same-length-20
+same-length-20 c = search needs
+
 returns-8 : tie.Need-returns-8
 returns-8 c =
-    let s = c .before .before .before .before .before .before .before .before .before .before .before .before .before .before .before .before .before .before .before in
-    rw (question-taken (reading s) (s .args .frame) (c .before .before .before .before .before .before .before .before .before .before .enum-told4 .given .1)) (c .before .before .before .before .question-frame .ensures _ _ _ _ _ (s .pre .0) (index-is (s .pre .0) (c .before .before .before .before .before .before .before .before .before .before .enum-told4 .given .1)))
+    let s = c .before .before .before .before .before .before .before .before .before .before .before .before .before .before .before .before .before .before .before .before in
+    rw (question-taken (reading s) (s .args .frame) (c .before .before .before .before .before .before .before .before .before .before .before .enum-told4 .given .1)) (c .before .before .before .before .question-frame .ensures _ _ _ _ _ (s .pre .0) (index-is (s .pre .0) (c .before .before .before .before .before .before .before .before .before .before .before .enum-told4 .given .1)))
 
 returns-9 : tie.Need-returns-9
 returns-9 c =
@@ -225,6 +235,8 @@ frame-in-phase-spec =
     slice-aggregate-question-frame-2
     slice-reshare-prefix-question-frame-3
     slice-aggregate-question-frame-3
+    stages-there
+    slice-aggregate-question-frame-4
     question-frame-requires
     enum-told-5
     same-length-6
@@ -244,5 +256,6 @@ frame-in-phase-spec =
     same-length-17
     same-length-18
     same-length-19
+    same-length-20
     returns-8
     returns-9)

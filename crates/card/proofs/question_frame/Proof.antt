@@ -23,12 +23,12 @@ same-length c = search needs
 
 returns : tie.Need-returns
 returns c = λ ts needs ws ds work h x.
-    let s = c .before .before .before .before .before .before .before .before .before .before .before .args in
+    let s = c .before .before .before .before .before .before .before .before .before .before .before .before .args in
     rw (question-misplaced (readingOf (s .card) (areas ts needs ws ds work (s .list .now))) (s .kind) (s .a) (s .b) (sym (c .before .before .before .before .before .is-question .ensures) ∙ not-true _ (c .before .before .before .before .if1 .taken)))
     (c .before .before .misplaced .ensures _ (h .room))
 
-asks : (c : tie.Else1) → let s = c .before .before .before .before .before .before .before .args in Question (s .kind) (s .b)
-asks c = let s = c .before .before .before .before .before .before .before .args in question (s .kind) (s .b) (sym (c .before .is-question .ensures) ∙ not-false _ (c .if1 .left))
+asks : (c : tie.Else1) → let s = c .before .before .before .before .before .before .before .before .args in Question (s .kind) (s .b)
+asks c = let s = c .before .before .before .before .before .before .before .before .args in question (s .kind) (s .b) (sym (c .before .is-question .ensures) ∙ not-false _ (c .if1 .left))
 
 pair-answer-requires : tie.Need-pair-answer-requires
 pair-answer-requires c κs = search needs
@@ -41,7 +41,7 @@ same-length-2 c = search needs
 
 returns-2 : tie.Need-returns-2
 returns-2 c = λ ts needs ws ds work h x.
-    let s = c .before .before .before .before .before .before .before .before .before .before .before .before .before .args in
+    let s = c .before .before .before .before .before .before .before .before .before .before .before .before .before .before .args in
     let said = c .before .before .put-pair .ensures in
     let answer = c .before .before .before .before .pair-answer .result in
     rw (question-pair (readingOf (s .card) (areas ts needs ws ds work (s .list .now))) (s .kind) (s .a) (s .b) (asks (c .before .before .before .before .before .before) .from) (c .before .before .before .before .before .if2 .taken), x, ← c .before .before .before .before .pair-answer .ensures)
@@ -61,7 +61,7 @@ same-length-4 c = search needs
 
 returns-3 : tie.Need-returns-3
 returns-3 c = λ ts needs ws ds work h x.
-    let s = c .before .before .before .before .before .before .before .before .before .before .before .before .before .before .before .before .before .before .args in
+    let s = c .before .before .before .before .before .before .before .before .before .before .before .before .before .before .before .before .before .before .before .args in
     let said = c .before .before .put-answer .ensures in
     let told = c .before .before .before .before .before .before .before .list-answer .ensures in
     let answer = c .before .before .before .before .before .before .before .list-answer .result in
@@ -82,7 +82,7 @@ same-length-5 c = search needs
 
 returns-4 : tie.Need-returns-4
 returns-4 c = λ ts needs ws ds work h x.
-    let s = c .before .before .before .before .before .before .before .before .before .before .before .before .before .before .args in
+    let s = c .before .before .before .before .before .before .before .before .before .before .before .before .before .before .before .args in
     let said = c .before .before .put-number .ensures in
     let answer = c .before .before .before .before .number-answer .result in
     rw (question-number (readingOf (s .card) (areas ts needs ws ds work (s .list .now))) (s .kind) (s .a) (s .b) (c .before .before .before .before .before .if3 .left) (asks (c .before .before .before .before .before .before .before) .to) (λ e. asks (c .before .before .before .before .before .before .before) .filler (omega arith) (omega arith)), x, ← c .before .before .before .before .number-answer .ensures)

@@ -1,0 +1,2 @@
+-- The laws that the table rests on.
+pub mod Lasts

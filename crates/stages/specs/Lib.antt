@@ -1,0 +1,2 @@
+-- The table of the stages of a course.
+pub mod Stages
