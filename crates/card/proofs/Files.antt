@@ -20,11 +20,11 @@ use Rattle.frames.specs.declared.Line.the-variants.{IsFrame, NoFrame}
 use Rattle.frames.specs.Lines.{lineOf}
 use Rattle.frames.specs.Printed.{refusedLine}
 use Rattle.frames.proofs.Frames.{line-short, line-long, line-feed-last}
-use Rattle.card.specs.declared.Phase.{Phase}
-use Rattle.card.specs.declared.Phase.the-variants.{Head, Tracks, Needs, Asking, Stopped}
-use Rattle.card.specs.Card.{Reading, Next, goOn, counted, reads, refuse, readLine, unfinished, atEnd, start}
+use Rattle.reading.specs.declared.Phase.{Phase}
+use Rattle.reading.specs.declared.Phase.the-variants.{Head, Tracks, Needs, Asking, Stopped}
+use Rattle.reading.specs.Card.{Reading, Next, goOn, counted, reads, refuse, readLine, unfinished, atEnd, start}
 use Rattle.card.specs.Files.{firstLine, printedFrom, coursePrints, fed, restPrinted}
-use Rattle.card.specs.Held.{next}
+use Rattle.reading.specs.Held.{next}
 
 -- ---- the first line
 

@@ -13,11 +13,11 @@ use lib.Dec.{leb}
 use borrow.Author.Tests.{leb-true, le-leb}
 use borrow.Rule.Slice.PartMut.{putMid}
 use Rattle.rules.proofs.Verdicts.{and-both}
-use Rattle.card.specs.declared.Card.{Card}
-use Rattle.card.specs.declared.Step.{Step}
-use Rattle.card.specs.Card.{Reading, readLine}
+use Rattle.reading.specs.declared.Card.{Card}
+use Rattle.reading.specs.declared.Step.{Step}
+use Rattle.reading.specs.Card.{Reading, readLine}
 use Rattle.card.specs.Files.{fed}
-use Rattle.card.specs.Held.{Areas, readingOf, Fit, next, Took}
+use Rattle.reading.specs.Held.{Areas, readingOf, Fit, next, Took}
 
 -- a card that has read so many bytes from a first reading on, and printed so many
 pub record Running (first : Reading) (bytes : List ℕ) (card : Card) (a : Areas) (out : List ℕ) (used wrote : ℕ) : Type 0 where

@@ -11,11 +11,11 @@ use Rattle.rules.proofs.Accepted.{listing-fine}
 use Rattle.frames.specs.declared.Frame.{Frame}
 use Rattle.frames.specs.declared.Line.the-variants.{IsFrame}
 use Rattle.frames.specs.Lines.{lineOf}
-use Rattle.card.specs.declared.Card.{Card}
-use Rattle.card.specs.declared.Phase.{Phase}
-use Rattle.card.specs.declared.Phase.the-variants.{Head, Tracks, Needs, Asking, Stopped}
-use Rattle.card.specs.Card.{Reading, goOn, listingOf, misplaced, headFrame, trackFrame, needFrame, endFrame, questionFrame, frameInPhase, counted, reads, readLine}
-use Rattle.card.specs.Held.{Areas, readingOf, Settled, Fit}
+use Rattle.reading.specs.declared.Card.{Card}
+use Rattle.reading.specs.declared.Phase.{Phase}
+use Rattle.reading.specs.declared.Phase.the-variants.{Head, Tracks, Needs, Asking, Stopped}
+use Rattle.reading.specs.Card.{Reading, goOn, listingOf, misplaced, headFrame, trackFrame, needFrame, endFrame, questionFrame, frameInPhase, counted, reads, readLine}
+use Rattle.reading.specs.Held.{Areas, readingOf, Settled, Fit}
 use Rattle.card.proofs.Ends.{words-few}
 
 -- ---- the order of frames
@@ -56,20 +56,6 @@ module _ (r : Reading) (f : Frame) {phase : Phase} where
   pub stopped-taken : phase ≡ Stopped → frameInPhase phase r f ≡ goOn r
   unfolding frameInPhase
   stopped-taken e = rw e
-
--- ---- what a phase has settled of the areas
-
-module _ {card : Card} {a : Areas} (fit : Fit card a) where
-  pub tracks-left : card .phase ≡ Tracks → card .units < length (a .tracks)
-  tracks-left e = let s : Settled Tracks card a = rw e at (fit .settled) in omega (arith, s .0 .n-in)
-
-  pub tracks-few : card .phase ≡ Needs → card .k ≤ 32
-  tracks-few e = let s : Settled Needs card a = rw e at (fit .settled) in s .0 .k-in .1
-
-  pub count-few : card .phase ≡ Asking → card .count ≤ 992
-  count-few e =
-      let s = subst (λ (phase : Phase). Settled phase card a) e (fit .settled) in
-      omega (arith, s .2 .count-is, words-few (listing-fine (listingOf (readingOf card a)) (s .2 .accepted)))
 
 -- ---- a line that is a frame
 

@@ -4,7 +4,7 @@ use mathlib.Core.Bool.{cond}
 use mathlib.Core.List.{List, [], _∷_, _++_}
 use lib.ListN.{length, take, drop}
 use lib.Dec.{eqb}
-use Rattle.card.specs.Card.{Reading, Next, readLine, atEnd, start}
+use Rattle.reading.specs.Card.{Reading, Next, readLine, atEnd, start}
 
 -- the first line of the bytes, its line feed included where it has one
 unfoldable pub firstLine : List ℕ → List ℕ

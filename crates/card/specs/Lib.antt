@@ -1,4 +1,2 @@
--- The order of frames, and what is printed for a course file.
-pub mod Card
+-- What is printed for a course file.
 pub mod Files
-pub mod Held

@@ -7,8 +7,8 @@ use borrow.Author.Tests.{not-true, not-false}
 use Rattle.rules.specs.declared.Refusal.the-variants.{NoFrame, FrameOrder}
 use Rattle.frames.specs.Printed.{refusedLine}
 use Rattle.frames.proofs.Lengths.{length-refused}
-use Rattle.card.specs.Held.{readingOf}
-use Rattle.card.proofs.Cards.{written}
+use Rattle.reading.specs.Held.{readingOf}
+use Rattle.reading.proofs.Taking.{written}
 use Rattle.card.proofs.Files.{rest-none, rest-stopped, rest-refused}
 use borrow.Author.Needs.{needs}
 use Rattle.card.proofs.finish.Statement.{statement}

@@ -5,11 +5,11 @@ use mathlib.Core.Path.{sym}
 use native.Mathlib.Omega.{arith}
 use lib.ListN.{length}
 use lib.Seq.{length-take-le}
-use Rattle.card.specs.Card.{Reading}
-use Rattle.card.specs.Held.{Areas, areas, readingOf}
-use Rattle.card.proofs.Cards.{took-nothing}
-use Rattle.card.proofs.Asks.{index-is, ready, staged}
-use Rattle.card.proofs.Turns.{head-taken, head-not, track-taken, track-not, need-taken, end-taken, need-not, question-taken, stopped-taken, tracks-left, tracks-few, count-few}
+use Rattle.reading.specs.Card.{Reading}
+use Rattle.reading.specs.Held.{Areas, areas, readingOf}
+use Rattle.reading.proofs.Taking.{took-nothing}
+use Rattle.reading.proofs.Phases.{tracks-left, tracks-few, count-few, index-is, ready, staged}
+use Rattle.card.proofs.Turns.{head-taken, head-not, track-taken, track-not, need-taken, end-taken, need-not, question-taken, stopped-taken}
 use borrow.Author.Needs.{needs}
 use Rattle.card.proofs.frame_in_phase.Statement.{statement}
 use Rattle.card.proofs.frame_in_phase.Tie as tie

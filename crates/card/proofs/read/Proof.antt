@@ -5,11 +5,11 @@ use mathlib.Core.Path.{_≡_, sym, _∙_}
 use mathlib.Core.Bool.{true}
 use native.Mathlib.Omega.{arith}
 use borrow.Author.Tests.{not-true, not-false}
-use Rattle.card.specs.Card.{Reading, reads}
-use Rattle.card.specs.Held.{areas, readingOf}
-use Rattle.card.proofs.Cards.{took-nothing}
+use Rattle.reading.specs.Card.{Reading, reads}
+use Rattle.reading.specs.Held.{areas, readingOf}
+use Rattle.reading.proofs.Taking.{took-nothing}
 use Rattle.card.proofs.Files.{stopped-line, no-frame-line}
-use Rattle.card.proofs.Asks.{next-room, next-fit}
+use Rattle.reading.proofs.Phases.{next-room, next-fit}
 use Rattle.card.proofs.Turns.{late-line, frame-line}
 use borrow.Author.Needs.{needs}
 use Rattle.card.proofs.read.Statement.{statement}

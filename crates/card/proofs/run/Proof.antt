@@ -5,7 +5,7 @@ use mathlib.Core.Path.{_≡_, refl, sym, _∙_}
 use native.Mathlib.Omega.{arith}
 use lib.ListN.{length, length-take, length-drop}
 use borrow.Author.Needs.{needs}
-use Rattle.card.specs.Held.{areas, readingOf}
+use Rattle.reading.specs.Held.{areas, readingOf}
 use Rattle.card.proofs.Runs.{Running, running-start, goes-yes, goes-no, running-next, part-there}
 use Rattle.card.proofs.run.Statement.{statement}
 use Rattle.card.proofs.run.Tie as tie

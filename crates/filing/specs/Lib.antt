@@ -1,0 +1,2 @@
+-- What a need and the end of a listing leave.
+pub mod Filing

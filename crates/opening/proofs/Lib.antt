@@ -1,0 +1,2 @@
+-- The laws on the frames that open a course.
+pub mod Opening

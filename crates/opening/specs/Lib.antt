@@ -1,0 +1,2 @@
+-- What the frames that open a course leave.
+pub mod Opening
