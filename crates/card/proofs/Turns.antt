@@ -1,22 +1,17 @@
 -- Which frame is taken in which phase, and what a line leads to.
 -- Assumes nothing.
 use Prim.Native.Nat.{ℕ, _+_, _≤_, _<_}
-use mathlib.Core.Path.{_≡_, subst}
+use mathlib.Core.Path.{_≡_}
 use mathlib.Core.Bool.{true}
 use mathlib.Core.List.{List}
 use native.Mathlib.Omega.{arith}
-use lib.ListN.{length}
 use borrow.Author.Tests.{eq-eqb, ne-eqb, lt-ltb, le-ltb}
-use Rattle.rules.proofs.Accepted.{listing-fine}
 use Rattle.frames.specs.declared.Frame.{Frame}
 use Rattle.frames.specs.declared.Line.the-variants.{IsFrame}
 use Rattle.frames.specs.Lines.{lineOf}
-use Rattle.reading.specs.declared.Card.{Card}
 use Rattle.reading.specs.declared.Phase.{Phase}
 use Rattle.reading.specs.declared.Phase.the-variants.{Head, Tracks, Needs, Asking, Stopped}
-use Rattle.reading.specs.Card.{Reading, goOn, listingOf, misplaced, headFrame, trackFrame, needFrame, endFrame, questionFrame, frameInPhase, counted, reads, readLine}
-use Rattle.reading.specs.Held.{Areas, readingOf, Settled, Fit}
-use Rattle.card.proofs.Ends.{words-few}
+use Rattle.reading.specs.Card.{Reading, goOn, misplaced, headFrame, trackFrame, needFrame, endFrame, questionFrame, frameInPhase, counted, reads, readLine}
 
 -- ---- the order of frames
 

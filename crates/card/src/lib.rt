@@ -5,16 +5,15 @@ use reading::Card;
 use reading::Phase;
 use reading::Step;
 use rules::Refusal;
-ghost use Prim.Native.Nat.{_+_, _*_, _/_, _≤_, _<_};
+ghost use Prim.Native.Nat.{_≤_, _<_};
 ghost use mathlib.Core.Path.{_≡_};
-ghost use mathlib.Core.Bool.{false, _&&_};
-ghost use mathlib.Core.Logic.{_⊎_};
-ghost use lib.ListN.{length, take};
+ghost use mathlib.Core.Bool.{_&&_};
+ghost use lib.ListN.{length};
 ghost use lib.Dec.{leb};
 ghost use Rattle.rules.specs.Ranges.{over};
 ghost use Rattle.reading.specs.Card as rule;
-ghost use Rattle.reading.specs.Held.{Areas, lent, entered, left, readingOf, Fit, next, Took};
-ghost use Rattle.card.specs.Files.{fed, restPrinted};
+ghost use Rattle.reading.specs.Held.{Areas, lent, entered, left, readingOf, Fit, Took};
+ghost use Rattle.card.specs.Files.{restPrinted, Ran};
 
 // ---- one line
 
@@ -156,17 +155,14 @@ pub fn run(
     out: &mut [u8],
 ) -> Progress
     requires { ⌜ Fit card (lent tracks needs words directory work list) ⌝ }
-    ensures { λ r. ⌜ next (readingOf (r .card) (left tracks needs words directory work list)) (take (r .wrote) (now (out .exit))) ≡ fed (readingOf card (entered tracks needs words directory work list)) (now (bytes .entry)) (r .used / 11) ⌝ }
-    ensures { λ r. ⌜ (r .used / 11 * 11 ≡ r .used) × (r .used ≤ length (now (bytes .entry))) × (r .wrote ≤ length (now (out .exit))) ⌝ }
-    ensures { λ r. ⌜ (rule.reads (r .card .phase) ≡ false) ⊎ ((length (now (bytes .entry)) < r .used + 11) ⊎ (length (now (out .entry)) < r .wrote + 5125)) ⌝ }
-    ensures { λ r. ⌜ Fit (r .card) (left tracks needs words directory work list) ⌝ }
+    ensures { λ r. ⌜ Ran (readingOf card (entered tracks needs words directory work list)) (now (bytes .entry)) (now (out .entry)) r (left tracks needs words directory work list) (now (out .exit)) ⌝ }
 {
-    let mut now = card;
+    let mut reached = card;
     let mut used: usize = 0;
     let mut wrote: usize = 0;
-    while goes_on(now, bytes.len() - used, out.len() - wrote) {
+    while goes_on(reached, bytes.len() - used, out.len() - wrote) {
         let step = read(
-            now,
+            reached,
             &bytes[used..used + 11],
             tracks,
             needs,
@@ -176,12 +172,12 @@ pub fn run(
             list,
             &mut out[wrote..],
         );
-        now = step.card;
+        reached = step.card;
         used += 11;
         wrote += step.wrote;
     }
     Progress {
-        card: now,
+        card: reached,
         used,
         wrote,
     }
@@ -192,7 +188,7 @@ pub fn run(
 // The end of the file, with the bytes of its last line that is no frame, if there are any.
 pub fn finish(card: Card, rest: &[u8], out: &mut [u8]) -> usize
     requires { ⌜ (card .lines ≤ 65536) × (length (now rest) < 11) × (20 ≤ length (now out)) ⌝ }
-    ensures { λ r. ⌜ ((a : Areas) → (r ≤ length (now (out .exit))) × (take r (now (out .exit)) ≡ restPrinted (readingOf card a) (now (rest .entry)))) ⌝ }
+    ensures { λ r. ⌜ ((a : Areas) → (r ≡ length (restPrinted (readingOf card a) (now (rest .entry)))) × (now (out .exit) ≡ over (now (out .entry)) (restPrinted (readingOf card a) (now (rest .entry))))) ⌝ }
 {
     if !reading::is_reading(card) {
         return 0;

@@ -4,8 +4,8 @@ use Prim.Native.Nat.{ℕ, _*_, _≤_}
 use mathlib.Core.Path.{_≡_, refl, sym, _∙_}
 use mathlib.Core.List.{List}
 use native.Mathlib.Omega.{arith}
-use lib.ListN.{length, take, drop, length-append}
-use lib.Seq.{take-append-seam, length-take-le}
+use lib.ListN.{length, take}
+use lib.Seq.{length-take-le}
 use Rattle.rules.specs.declared.Refusal.{Refusal}
 use Rattle.rules.specs.Ranges.{over}
 use Rattle.rules.specs.Listing.{pairs}
@@ -18,24 +18,16 @@ use Rattle.reading.specs.Held.{Areas, readingOf, cardIn, Roomy, Fit, nex
 
 -- ---- what is printed
 
--- these bytes were written to the start of an area
-pub written : (xs before : List ℕ) {out : List ℕ} {wrote : ℕ} → out ≡ over before xs → wrote ≡ length xs
-    → (wrote ≤ length out) × (take wrote out ≡ xs)
-unfolding over
-written xs before e w = (rw (e, length-append) (omega arith), rw (e, w) (take-append-seam xs (drop (length xs) before)))
-
--- a step that wrote them
+-- a step that wrote these bytes
 pub took : (xs : List ℕ) {before out : List ℕ} {card : Card} {a : Areas} {wrote : ℕ} → out ≡ over before xs → wrote ≡ length xs → wrote ≤ 5125
     → Fit card a → Took (next (readingOf card a) xs) before (record { card = card; wrote = wrote }) a out
-took xs {before} {out} {card} {a} {wrote} e w few fit =
-    let t : take wrote out ≡ xs = written xs before e w .1 in
-    record { gives = rw t; few = few; printed = rw t e; fit = fit }
+took xs e w few fit = record { reading-is = refl; wrote-is = w; out-is = e; few = few; fit = fit }
 
 -- a step that wrote nothing
 pub took-nothing : {card : Card} {a : Areas} (before : List ℕ) → Fit card a
     → Took (goOn (readingOf card a)) before (record { card = card; wrote = 0 }) a before
 unfolding over
-took-nothing before fit = record { gives = refl; few = omega arith; printed = refl; fit = fit }
+took-nothing before fit = record { reading-is = refl; wrote-is = refl; out-is = refl; few = omega arith; fit = fit }
 
 pub stopped-fit : {card : Card} {a : Areas} → Roomy card a → Fit (cardIn Stopped card) a
 stopped-fit h =

@@ -163,11 +163,12 @@ pub record Fit (card : Card) (a : Areas) : Type 0 where
 abbrev pub next : Reading → List ℕ → Next
 next reading printed = record { reading = reading; printed = printed }
 
--- the reading and the bytes are those wanted, the bytes stand at the start of the line area, and the card is fit
+-- the reading is the one wanted, the bytes wanted stand at the start of the line area, whose rest is kept, and the card is fit
 pub record Took (wanted : Next) (before : List ℕ) (step : Step) (a : Areas) (out : List ℕ) : Type 0 where
-  pub gives : next (readingOf (step .card) a) (take (step .wrote) out) ≡ wanted
+  pub reading-is : readingOf (step .card) a ≡ wanted .reading
+  pub wrote-is : step .wrote ≡ length (wanted .printed)
+  pub out-is : out ≡ over before (wanted .printed)
   pub few : step .wrote ≤ 5125
-  pub printed : out ≡ over before (take (step .wrote) out)
   pub fit : Fit (step .card) a
 
 -- ---- the questions

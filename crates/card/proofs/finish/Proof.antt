@@ -1,14 +1,13 @@
 -- `card::finish`: a card that has stopped prints nothing more; bytes that are left are no frame; the end is out of order before 04.
 -- Assumes nothing.
 use Prim.Native.Nat.{_+_}
-use mathlib.Core.Path.{sym, _∙_}
+use mathlib.Core.Path.{refl, sym, _∙_}
 use native.Mathlib.Omega.{arith}
 use borrow.Author.Tests.{not-true, not-false}
 use Rattle.rules.specs.declared.Refusal.the-variants.{NoFrame, FrameOrder}
-use Rattle.frames.specs.Printed.{refusedLine}
 use Rattle.frames.proofs.Lengths.{length-refused}
 use Rattle.reading.specs.Held.{readingOf}
-use Rattle.reading.proofs.Taking.{written}
+use Rattle.frames.proofs.Overs.{over-none}
 use Rattle.card.proofs.Files.{rest-none, rest-stopped, rest-refused}
 use borrow.Author.Needs.{needs}
 use Rattle.card.proofs.finish.Statement.{statement}
@@ -20,7 +19,7 @@ is-reading-requires c κs = search needs
 returns : tie.Need-returns
 returns c = λ a.
     let s = c .before .before .before .before .args in
-    (omega arith, sym (rest-stopped (readingOf (s .card) a) (s .rest .now) (sym (c .before .is-reading .ensures) ∙ not-true _ (c .if1 .taken))))
+    rw (rest-stopped (readingOf (s .card) a) (s .rest .now) (sym (c .before .is-reading .ensures) ∙ not-true _ (c .if1 .taken))) (refl, over-none (s .out .now))
 
 add-t9 : tie.Need-add-t9
 add-t9 c = search needs
@@ -36,9 +35,8 @@ returns-2 c = λ a.
     let s = c .before .before .before .before .before .before .before .before .before .before .args in
     let said = c .before .before .put-refused .ensures in
     let reads = sym (c .before .before .before .before .before .before .before .is-reading .ensures) ∙ not-false _ (c .before .before .before .before .before .before .if1 .left) in
-    let line = refusedLine (NoFrame (s .card .lines + 1)) in
     rw (rest-refused (readingOf (s .card) a) (s .rest .now) reads (c .before .before .before .before .before .if2 .taken) (omega arith))
-    (written line (s .out .now) (said .1) (said .0 ∙ sym (length-refused (NoFrame (s .card .lines + 1)))))
+    (said .0 ∙ sym (length-refused (NoFrame (s .card .lines + 1))), said .1)
 
 is-unfinished-requires : tie.Need-is-unfinished-requires
 is-unfinished-requires c κs = search needs
@@ -47,7 +45,7 @@ returns-3 : tie.Need-returns-3
 returns-3 c = λ a.
     let s = c .before .before .before .before .before .before .before .args in
     let done = sym (c .before .is-unfinished .ensures) ∙ not-true _ (c .if3 .taken) in
-    (omega arith, rw (rest-none (readingOf (s .card) a) (s .rest .now) (c .before .before .if2 .left), done))
+    rw (rest-none (readingOf (s .card) a) (s .rest .now) (c .before .before .if2 .left), done) (refl, over-none (s .out .now))
 
 add-t13 : tie.Need-add-t13
 add-t13 c = search needs
@@ -64,7 +62,7 @@ returns-4 c = λ a.
     let said = c .before .before .put-refused2 .ensures in
     let early = sym (c .before .before .before .before .before .before .is-unfinished .ensures) ∙ not-false _ (c .before .before .before .before .before .if3 .left) in
     rw (rest-none (readingOf (s .card) a) (s .rest .now) (c .before .before .before .before .before .before .before .if2 .left), early)
-    (written (refusedLine (FrameOrder (s .card .lines + 1))) (s .out .now) (said .1) (said .0 ∙ sym (length-refused (FrameOrder (s .card .lines + 1)))))
+    (said .0 ∙ sym (length-refused (FrameOrder (s .card .lines + 1))), said .1)
 
 pub finish-spec : {M : Type 1} → statement M
 finish-spec =

@@ -2,22 +2,24 @@
 -- Assumes nothing.
 use Prim.Native.Nat.{_+_, _-_, _^_, _≤_, _<_}
 use mathlib.Core.Path.{_≡_, refl, sym, _∙_}
+use mathlib.Core.Bool.{true}
 use native.Mathlib.Omega.{arith}
 use lib.ListN.{length, length-take, length-drop}
 use borrow.Author.Needs.{needs}
+use Rattle.reading.specs.Card.{reads}
 use Rattle.reading.specs.Held.{areas, readingOf}
-use Rattle.card.proofs.Runs.{Running, running-start, goes-yes, goes-no, running-next, part-there}
+use Rattle.card.proofs.Runs.{Running, running-start, goes-yes, running-next, running-ends}
 use Rattle.card.proofs.run.Statement.{statement}
 use Rattle.card.proofs.run.Tie as tie
 
 abbrev Inv-loop : tie.InvT-loop
-Inv-loop bytes tracks₀ needs₀ words₀ directory₀ work₀ list₀ out₀ now₀ used₀ wrote₀ tracks needs words directory work list out now used wrote =
-    Running (readingOf now₀ (areas tracks₀ needs₀ words₀ directory₀ work₀ list₀)) bytes now (areas tracks needs words directory work list) out used wrote
+Inv-loop bytes tracks₀ needs₀ words₀ directory₀ work₀ list₀ out₀ reached₀ used₀ wrote₀ tracks needs words directory work list out reached used wrote =
+    Running (readingOf reached₀ (areas tracks₀ needs₀ words₀ directory₀ work₀ list₀)) bytes out₀ reached (areas tracks needs words directory work list) out used wrote
     × ((length tracks ≡ length tracks₀) × (length needs ≡ length needs₀) × (length words ≡ length words₀) × (length directory ≡ length directory₀)
     × (length work ≡ length work₀) × (length list ≡ length list₀) × (length out ≡ length out₀))
 
 abbrev μ-loop : tie.MeasureT-loop
-μ-loop bytes tracks₀ needs₀ words₀ directory₀ work₀ list₀ out₀ now₀ used₀ wrote₀ tracks needs words directory work list out now used wrote =
+μ-loop bytes tracks₀ needs₀ words₀ directory₀ work₀ list₀ out₀ reached₀ used₀ wrote₀ tracks needs words directory work list out reached used wrote =
     length bytes - used
 
 loop-holds : tie.Need-loop-holds Inv-loop μ-loop
@@ -34,7 +36,7 @@ goes-on-requires c κs = search needs
 
 -- another line is read
 goes : (c : tie.Then1 Inv-loop μ-loop) → let l = c .before .before .loop in
-    (11 ≤ length (c .before .before .before .before .before .before .before .before .before .before .before .args .bytes .now) - l .used) × (5125 ≤ length (l .out) - l .wrote)
+    (11 ≤ length (c .before .before .before .before .before .before .before .before .before .before .before .args .bytes .now) - l .used) × (5125 ≤ length (l .out) - l .wrote) × (reads (l .reached .phase) ≡ true)
 goes c = goes-yes _ _ _ (sym (c .before .goes-on .ensures) ∙ c .if1 .taken)
 
 room-fits : (c : tie.Then1 Inv-loop μ-loop) → c .before .before .loop .wrote + 5125 < 2 ^ 64
@@ -62,7 +64,7 @@ part-read-end-2 : tie.Need-part-read-end-2 Inv-loop μ-loop
 part-read-end-2 c = search needs
 
 read-requires : tie.Need-read-requires Inv-loop μ-loop
-read-requires c κs = (c .before .before .before .before .before .before .before .before .before .before .loop .inv .0 .fit, simp (length-take, length-drop) (omega (arith, goes (c .before .before .before .before .before .before .before .before))))
+read-requires c κs = (c .before .before .before .before .before .before .before .before .before .before .loop .inv .0 .ran .fit, simp (length-take, length-drop) (omega (arith, goes (c .before .before .before .before .before .before .before .before))))
 
 add-used : tie.Need-add-used Inv-loop μ-loop
 add-used c = add-read (c .before .before .before .before .before .before .before .before .before .before .before .before .before .before .before .before .before .before .before .before .before .before .before .before)
@@ -76,9 +78,12 @@ loop-less c = omega (arith, goes (c .before .before .before .before .before .bef
 loop-again : tie.Need-loop-again Inv-loop μ-loop
 loop-again c =
     let l = c .before .before .before .before .before .before .before .before .before .before .before .before .before .before .before .before .before .before .before .before .before .before .before .before .before .before .before .loop in
-    let g = goes (c .before .before .before .before .before .before .before .before .before .before .before .before .before .before .before .before .before .before .before .before .before .before .before .before .before) in
+    let t = c .before .before .before .before .before .before .before .before .before .before .before .before .before .before .before .before .before .before .before .before .before .before .before .before .before in
+    let read = c .before .before .before .before .before .before .before .before .before .before .before .before .before .before .before .before .read in
+    let k = read .kept .1 .1 in
+    let i = l .inv .1 in
     let eleven : l .used + 11 - l .used ≡ 11 = omega arith in
-    (running-next (l .inv .0) (g .0) (g .1) (rw eleven) (c .before .before .before .before .before .before .before .before .before .before .before .before .before .before .before .before .read .ensures) (part-there (l .out) _ (l .wrote)) (search needs), search needs)
+    (running-next (l .inv .0) (l .inv .1 .6) (sym (t .before .goes-on .ensures) ∙ t .if1 .taken) (rw eleven) (read .ensures), (k .0 ∙ i .0, k .1 .0 ∙ i .1, k .1 .1 .0 ∙ i .2, k .1 .1 .1 .0 ∙ i .3, k .1 .1 .1 .1 .0 ∙ i .4, k .1 .1 .1 .1 .1 .0 ∙ i .5, search needs))
 
 same-length : tie.Need-same-length Inv-loop μ-loop
 same-length c = search needs
@@ -104,8 +109,7 @@ same-length-7 c = search needs
 returns : tie.Need-returns Inv-loop μ-loop
 returns c =
     let l = c .before .before .loop in
-    let run = l .inv .0 in
-    (run .gives, ((run .lines, run .used-in, run .wrote-in), (goes-no (length (c .before .before .before .before .before .before .before .before .before .before .before .args .bytes .now)) (l .used) (length (l .out)) (l .wrote) _ (l .inv .1 .6) (sym (c .before .goes-on .ensures) ∙ c .if1 .left), run .fit)))
+    running-ends (l .inv .0) (l .inv .1 .6) (sym (c .before .goes-on .ensures) ∙ c .if1 .left)
 
 pub run-spec : {M : Type 1} → statement M
 run-spec =
