@@ -1,88 +1,29 @@
-// The course program: a course file on standard input, its answers on standard output. Everything that matters is in `card`; here it is
-// only fed with what is read, and what it prints is written.
-use card::Card;
+// The course program: a course file on standard input, its answers on standard output. What is done with the bytes is in `feeding`; here
+// they are read, handed on, and what is printed is written.
 use libc::STDIN_FILENO;
 use libc::STDOUT_FILENO;
-ghost use Prim.Native.Nat.{_+_, _≤_, _<_};
+use reading::Card;
+ghost use Prim.Native.Nat.{_-_, _≤_, _<_};
 ghost use mathlib.Core.Path.{_≡_};
-ghost use mathlib.Core.Bool.{true, _&&_};
-ghost use lib.Dec.{leb};
-ghost use lib.ListN.{length};
-ghost use Rattle.card.specs.Card.{reads};
-ghost use Rattle.card.specs.Held.{areas, Fit};
+ghost use mathlib.Core.Bool.{false};
+ghost use lib.ListN.{length, take};
+ghost use Rattle.rules.specs.Ranges.{over};
+ghost use Rattle.reading.specs.Held.{areas, Room, lent, entered, left, Fit};
+ghost use Rattle.course.specs.Waiting.{part, Refilled, Turned};
 
-// A card with the bytes of a line that is not whole yet, and whether to read on.
+// A card, the bytes that wait in the block, whether more is to be read, and whether a read or a write has failed.
 struct Feeding {
     card: Card,
-    have: usize,
+    from: usize,
+    end: usize,
     more: bool,
-}
-
-// A card after all whole lines of some bytes, how many bytes these took, and whether all could be written.
-struct Answered {
-    card: Card,
-    used: usize,
-    written: bool,
-}
-
-// Whether another line is to be read: what was printed could be written, a whole line is left, and the card reads on.
-fn goes_on(written: bool, left: usize, card: Card) -> bool
-    ensures { λ r. ⌜ r ≡ (written && leb 11 left && reads (card .phase)) ⌝ }
-{
-    if !written || left < 11 {
-        return false;
-    }
-    card::is_reading(card)
-}
-
-// Reads line after line, and writes the answers whenever the output area is full or the lines are at an end.
-fn answer(
-    card: Card,
-    bytes: &[u8],
-    tracks: &mut [u16],
-    needs: &mut [u16],
-    words: &mut [u64],
-    directory: &mut [u16],
-    work: &mut [u16],
-    list: &mut [u16],
-    out: &mut [u8],
-) -> Answered
-    requires { ⌜ Fit card (areas (now tracks) (now needs) (now words) (now directory) (now work) (now list)) ⌝ }
-    requires { ⌜ 5125 ≤ length (now out) ⌝ }
-    ensures { λ r. ⌜ Fit (r .card) (areas (now (tracks .exit)) (now (needs .exit)) (now (words .exit)) (now (directory .exit)) (now (work .exit)) (now (list .exit))) ⌝ }
-    ensures { λ r. ⌜ r .used ≤ length (now (bytes .entry)) ⌝ }
-    ensures { λ r. ⌜ (r .written ≡ true → reads (r .card .phase) ≡ true → length (now (bytes .entry)) < r .used + 11) ⌝ }
-{
-    let mut now = card;
-    let mut used: usize = 0;
-    let mut written = true;
-    while goes_on(written, bytes.len() - used, now) {
-        let run = card::run(
-            now,
-            &bytes[used..],
-            tracks,
-            needs,
-            words,
-            directory,
-            work,
-            list,
-            out,
-        );
-        let wrote = run.wrote;
-        written = io::write_all(STDOUT_FILENO, &out[..wrote]);
-        now = run.card;
-        used += run.used;
-    }
-    Answered {
-        card: now,
-        used,
-        written,
-    }
+    failed: bool,
 }
 
 // Moves the bytes from one place up to another to the front.
 fn keep(bytes: &mut [u8], from: usize, end: usize)
     requires { ⌜ (from ≤ end) × (end ≤ length (now bytes)) ⌝ }
+    ensures { λ r. ⌜ now (bytes .exit) ≡ over (now (bytes .entry)) (part (now (bytes .entry)) from end) ⌝ }
 {
     let mut i: usize = 0;
     while from + i < end {
@@ -100,7 +41,7 @@ struct Filled {
 // One read, behind the bytes that are there.
 fn fill(bytes: &mut [u8], have: usize) -> Filled
     requires { ⌜ have ≤ length (now bytes) ⌝ }
-    ensures { λ r. ⌜ (have ≤ r .end) × (r .end ≤ length (now (bytes .exit))) ⌝ }
+    ensures { λ r. ⌜ (have ≤ r .end) × (r .end ≤ length (now (bytes .exit))) × (take have (now (bytes .exit)) ≡ take have (now (bytes .entry))) ⌝ }
 {
     let got = libc::read(STDIN_FILENO, &mut bytes[have..]);
     if got < 0 {
@@ -115,16 +56,47 @@ fn fill(bytes: &mut [u8], have: usize) -> Filled
     }
 }
 
-// The end of the file.
-fn finish(card: Card, rest: &[u8], out: &mut [u8])
-    requires { ⌜ (card .lines ≤ 65536) × (length (now rest) < 11) × (20 ≤ length (now out)) ⌝ }
-{
-    let wrote = card::finish(card, rest, out);
-    io::write_all(STDOUT_FILENO, &out[..wrote]);
+// The bytes that wait, whether the file has ended with them, and whether the read went well.
+struct Waiting {
+    from: usize,
+    end: usize,
+    ended: bool,
+    well: bool,
 }
 
-// One read, and everything that it brings. A read or a write that fails ends the program without another word: what follows is not known
-// to be the end of the file.
+// Reads on where no whole line waits.
+fn refill(bytes: &mut [u8], from: usize, end: usize) -> Waiting
+    requires { ⌜ (from ≤ end) × (end ≤ length (now bytes)) × (11 ≤ length (now bytes)) ⌝ }
+    ensures { λ r. ⌜ Refilled (now (bytes .entry)) from end r (now (bytes .exit)) ⌝ }
+{
+    if 11 <= end - from {
+        return Waiting {
+            from,
+            end,
+            ended: false,
+            well: true,
+        };
+    }
+    keep(bytes, from, end);
+    let have = end - from;
+    let filled = fill(bytes, have);
+    Waiting {
+        from: 0,
+        end: filled.end,
+        ended: filled.end == have,
+        well: filled.well,
+    }
+}
+
+// What is printed is written; whether all of it could be.
+fn print(out: &[u8], wrote: usize) -> bool
+    requires { ⌜ wrote ≤ length (now out) ⌝ }
+{
+    io::write_all(STDOUT_FILENO, &out[..wrote])
+}
+
+// Reads on where no whole line waits, and feeds the card with all that waits. A read or a write that fails ends the program without another
+// word: what follows is not known to be the end of the file.
 fn turn(
     feeding: Feeding,
     bytes: &mut [u8],
@@ -136,33 +108,27 @@ fn turn(
     list: &mut [u16],
     out: &mut [u8],
 ) -> Feeding
-    requires { ⌜ Fit (feeding .card) (areas (now tracks) (now needs) (now words) (now directory) (now work) (now list)) ⌝ }
-    requires { ⌜ (feeding .have < 11) × (11 ≤ length (now bytes)) × (5125 ≤ length (now out)) ⌝ }
-    ensures { λ r. ⌜ Fit (r .card) (areas (now (tracks .exit)) (now (needs .exit)) (now (words .exit)) (now (directory .exit)) (now (work .exit)) (now (list .exit))) ⌝ }
-    ensures { λ r. ⌜ r .have < 11 ⌝ }
+    requires { ⌜ Fit (feeding .card) (lent tracks needs words directory work list) ⌝ }
+    requires { ⌜ (feeding .from ≤ feeding .end) × (feeding .end ≤ length (now bytes)) × (11 ≤ length (now bytes)) × (5145 ≤ length (now out)) ⌝ }
+    ensures { λ r. ⌜ Turned feeding (now (bytes .entry)) (entered tracks needs words directory work list) (now (out .entry)) r (now (bytes .exit)) (left tracks needs words directory work list) (now (out .exit)) ⌝ }
 {
-    let have = feeding.have;
+    let waiting = refill(bytes, feeding.from, feeding.end);
+    let from = waiting.from;
+    let end = waiting.end;
     let card = feeding.card;
-    let filled = fill(bytes, have);
-    let end = filled.end;
-    if !filled.well {
+    if !waiting.well {
         return Feeding {
             card,
-            have,
+            from,
+            end,
             more: false,
+            failed: true,
         };
     }
-    if end == have {
-        finish(card, &bytes[..have], out);
-        return Feeding {
-            card,
-            have,
-            more: false,
-        };
-    }
-    let answered = answer(
+    let fed = feeding::feed(
         card,
-        &bytes[..end],
+        &bytes[from..end],
+        waiting.ended,
         tracks,
         needs,
         words,
@@ -171,32 +137,17 @@ fn turn(
         list,
         out,
     );
-    let used = answered.used;
-    let next = answered.card;
-    if !goes_on(answered.written, 11, next) {
-        return Feeding {
-            card: next,
-            have: 0,
-            more: false,
-        };
-    }
-    keep(bytes, used, end);
+    let written = print(out, fed.wrote);
     Feeding {
-        card: next,
-        have: end - used,
-        more: true,
+        card: fed.card,
+        from: from + fed.used,
+        end,
+        more: fed.more && written,
+        failed: !written,
     }
 }
 
-// One turn fewer, and none where nothing more is to be read.
-fn turns_left(turns: u32, more: bool) -> u32
-    requires { ⌜ 0 < turns ⌝ }
-    ensures { λ r. ⌜ r < turns ⌝ }
-{
-    if more { turns - 1 } else { 0 }
-}
-
-// A card stops after 65,536 lines of eleven bytes at most, and every turn but the last reads one byte at least.
+// Turn after turn, until nothing more is to be read. Every turn but the last reads a byte or takes a line, and a card stops after 65,536 lines.
 fn serve(
     bytes: &mut [u8],
     tracks: &mut [u16],
@@ -206,18 +157,19 @@ fn serve(
     work: &mut [u16],
     list: &mut [u16],
     out: &mut [u8],
-)
-    requires { ⌜ (11 ≤ length (now bytes)) × (5125 ≤ length (now out)) ⌝ }
-    requires { ⌜ (1024 ≤ length (now tracks)) × (16384 ≤ length (now needs)) × (992 ≤ length (now words)) ⌝ }
-    requires { ⌜ (992 ≤ length (now directory)) × (32768 ≤ length (now work)) × (1024 ≤ length (now list)) ⌝ }
+) -> Feeding
+    requires { ⌜ Room (lent tracks needs words directory work list) ⌝ }
+    requires { ⌜ (11 ≤ length (now bytes)) × (5145 ≤ length (now out)) ⌝ }
+    ensures { λ r. ⌜ r .more ≡ false ⌝ }
 {
     let mut feeding = Feeding {
-        card: card::start(),
-        have: 0,
+        card: reading::start(),
+        from: 0,
+        end: 0,
         more: true,
+        failed: false,
     };
-    let mut turns: u32 = 720_897;
-    while 0 < turns {
+    while feeding.more {
         feeding = turn(
             feeding,
             bytes,
@@ -229,8 +181,8 @@ fn serve(
             list,
             out,
         );
-        turns = turns_left(turns, feeding.more);
     }
+    feeding
 }
 
 fn main() {

@@ -1,0 +1,2 @@
+-- What the program's shell leaves between two turns.
+pub mod Waiting

@@ -1,0 +1,2 @@
+-- What is done with the bytes of a course file as they come.
+pub mod Feeding
