@@ -2,7 +2,7 @@
 -- Assumes nothing.
 use Prim.Native.Nat.{ℕ, _≤_, _<_}
 use mathlib.Core.Path.{_≡_, refl}
-use mathlib.Core.Bool.{true, false, cond}
+use mathlib.Core.Bool.{true, false}
 use mathlib.Core.List.{List}
 use mathlib.Core.Logic.{inl, inr}
 use native.Mathlib.Omega.{arith}
@@ -11,17 +11,15 @@ use lib.ListN.{length}
 use lib.Dec.{eqb}
 use borrow.Author.Tests.{ne-eqb, eqb-true}
 use Rattle.rules.specs.Ranges.{over}
-use Rattle.rules.specs.Questions.{kind10, kind11}
-use Rattle.rules.specs.Outcomes.{pairOutcome}
 use Rattle.rules.proofs.Verdicts.{is-within, not-within}
 use Rattle.rules.proofs.Ranges.{not-both}
 use Rattle.frames.specs.Printed.{pairLine, numberLine}
 use Rattle.reading.specs.declared.Card.{Card}
-use Rattle.reading.specs.Card.{Reading, readIndex, misplaced, answered, listPrinted, questionFrame}
+use Rattle.reading.specs.Card.{Reading, readIndex, misplaced, answered, questionFrame}
 use Rattle.reading.specs.Held.{areas, readingOf, Fit, Took}
 use Rattle.reading.proofs.Taking.{took}
 use Rattle.reading.proofs.Phases.{list-fit}
-use Rattle.asking.specs.Asking.{isQuestion, unitsAsked, numberAsked}
+use Rattle.asking.specs.Asking.{isQuestion, pairAsked, listAsked, numberAsked}
 use Rattle.asking.proofs.Answers.{cond-same}
 
 -- ---- which kinds are questions
@@ -99,22 +97,22 @@ module _ (r : Reading) (kind a b : ℕ) where
   -- ---- what each asks for
 
   pub question-pair : 0x10 ≤ kind → kind ≤ 0x11
-      → questionFrame r kind a b ≡ answered r (pairLine (pairOutcome (readIndex r) a b (cond (eqb kind 0x11) (kind11 (readIndex r) a b) (kind10 (readIndex r) a b))))
+      → questionFrame r kind a b ≡ answered r (pairLine (pairAsked (readIndex r) (eqb kind 0x11) a b))
   unfolding questionFrame
   question-pair p q = go (ℕ-discrete kind 0x10)
     where
       go : Dec (kind ≡ 0x10)
-          → questionFrame r kind a b ≡ answered r (pairLine (pairOutcome (readIndex r) a b (cond (eqb kind 0x11) (kind11 (readIndex r) a b) (kind10 (readIndex r) a b))))
+          → questionFrame r kind a b ≡ answered r (pairLine (pairAsked (readIndex r) (eqb kind 0x11) a b))
       go (yes e) = rw e
       go (no n) = let e : kind ≡ 0x11 = omega arith in rw e
 
   pub question-list : 0x12 ≤ kind → kind ≤ 0x15 → b ≡ 0
-      → questionFrame r kind a b ≡ answered r (listPrinted (readIndex r) a (unitsAsked (readIndex r) kind a))
+      → questionFrame r kind a b ≡ answered r (listAsked (readIndex r) kind a)
   unfolding questionFrame
   question-list p q z = go (ℕ-discrete kind 0x12) (ℕ-discrete kind 0x13) (ℕ-discrete kind 0x14)
     where
       go : Dec (kind ≡ 0x12) → Dec (kind ≡ 0x13) → Dec (kind ≡ 0x14)
-          → questionFrame r kind a b ≡ answered r (listPrinted (readIndex r) a (unitsAsked (readIndex r) kind a))
+          → questionFrame r kind a b ≡ answered r (listAsked (readIndex r) kind a)
       go (yes e) d t = rw (e, z)
       go (no n) (yes e) t = rw (e, z)
       go (no n) (no m) (yes e) = rw (e, z)

@@ -5,26 +5,34 @@ use mathlib.Core.Bool.{Bool, true, false, cond}
 use mathlib.Core.List.{List}
 use lib.ListN.{take}
 use lib.Dec.{eqb}
+use Rattle.rules.specs.declared.PairAnswer.{PairAnswer}
 use Rattle.rules.specs.declared.NumberAnswer.{NumberAnswer}
 use Rattle.rules.specs.declared.NumberAnswer.the-variants.{Number, Refused}
 use Rattle.rules.specs.Listing.{within}
 use Rattle.rules.specs.Index.{Index}
-use Rattle.rules.specs.Questions.{kind12, kind13, kind14, kind15, kind16, kind17, kind18}
-use Rattle.rules.specs.Outcomes.{unitOutcome, boundOutcome}
+use Rattle.rules.specs.Questions.{kind10, kind11, kind12, kind13, kind14, kind15, kind16, kind17, kind18}
+use Rattle.rules.specs.Outcomes.{pairOutcome, unitOutcome, boundOutcome}
 use Rattle.frames.specs.Printed.{refusedLine, listLine}
 use Rattle.reading.specs.declared.Card.{Card}
 use Rattle.reading.specs.declared.Step.{Step}
-use Rattle.reading.specs.Card.{readIndex, questionFrame}
+use Rattle.reading.specs.Card.{readIndex, listPrinted, questionFrame}
 use Rattle.reading.specs.Held.{areas, readingOf, Fit, Took}
 
 -- kinds 10 to 18, of which 12 to 16 carry 0 second
 abbrev pub isQuestion : ℕ → ℕ → Bool
 isQuestion kind b = cond (within 0x10 0x18 kind) (cond (within 0x12 0x16 kind) (eqb b 0) true) false
 
--- the list that kinds 12 to 15 ask for, and the number of kinds 16 to 18
+-- what kind 11, or kind 10, answers
+abbrev pub pairAsked : Index → Bool → ℕ → ℕ → PairAnswer
+pairAsked x direct u v = pairOutcome x u v (cond direct (kind11 x u v) (kind10 x u v))
+
+-- the list that kinds 12 to 15 ask for and what is printed for it, and the number of kinds 16 to 18
 abbrev pub unitsAsked : Index → ℕ → ℕ → List ℕ
 unitsAsked x kind u =
     cond (eqb kind 0x12) (kind12 x u) (cond (eqb kind 0x13) (kind13 x u) (cond (eqb kind 0x14) (kind14 x u) (kind15 x u)))
+
+abbrev pub listAsked : Index → ℕ → ℕ → List ℕ
+listAsked x kind u = listPrinted x u (unitsAsked x kind u)
 
 abbrev pub numberAsked : Index → ℕ → ℕ → ℕ → NumberAnswer
 numberAsked x kind u q =

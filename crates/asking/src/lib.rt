@@ -6,14 +6,10 @@ use rules::PairAnswer;
 use rules::Refusal;
 ghost use Prim.Native.Nat.{_≤_};
 ghost use mathlib.Core.Path.{_≡_};
-ghost use mathlib.Core.Bool.{cond};
 ghost use lib.ListN.{length};
 ghost use Rattle.rules.specs.Ranges.{over};
-ghost use Rattle.rules.specs.Outcomes.{pairOutcome};
-ghost use Rattle.rules.specs.Questions.{kind10, kind11};
-ghost use Rattle.reading.specs.Card as rule;
 ghost use Rattle.reading.specs.Held.{asked, Ready, stagesOf};
-ghost use Rattle.asking.specs.Asking.{isQuestion, unitsAsked, numberAsked, answerLine, counts, QuestionTaken};
+ghost use Rattle.asking.specs.Asking.{isQuestion, pairAsked, listAsked, numberAsked, answerLine, counts, QuestionTaken};
 
 // Kind 11, or kind 10.
 fn pair_answer(
@@ -26,7 +22,7 @@ fn pair_answer(
     directory: &[u16],
 ) -> PairAnswer
     requires { ⌜ Ready card (now tracks) (now words) (now directory) ⌝ }
-    ensures { λ r. ⌜ r ≡ pairOutcome (asked card (now (tracks .entry)) (now (words .entry)) (now (directory .entry))) u v (cond direct (kind11 (asked card (now (tracks .entry)) (now (words .entry)) (now (directory .entry))) u v) (kind10 (asked card (now (tracks .entry)) (now (words .entry)) (now (directory .entry))) u v)) ⌝ }
+    ensures { λ r. ⌜ r ≡ pairAsked (asked card (now (tracks .entry)) (now (words .entry)) (now (directory .entry))) direct u v ⌝ }
 {
     let lens = card.lens;
     let row = card.row;
@@ -57,7 +53,7 @@ fn list_answer(
 ) -> NumberAnswer
     requires { ⌜ Ready card (now tracks) (now words) (now directory) ⌝ }
     requires { ⌜ 1024 ≤ length (now list) ⌝ }
-    ensures { λ r. ⌜ (counts r ≤ 1024) × (answerLine r (now (list .exit)) ≡ rule.listPrinted (asked card (now (tracks .entry)) (now (words .entry)) (now (directory .entry))) u (unitsAsked (asked card (now (tracks .entry)) (now (words .entry)) (now (directory .entry))) kind u)) ⌝ }
+    ensures { λ r. ⌜ (counts r ≤ 1024) × (answerLine r (now (list .exit)) ≡ listAsked (asked card (now (tracks .entry)) (now (words .entry)) (now (directory .entry))) kind u) ⌝ }
 {
     let lens = card.lens;
     let row = card.row;
