@@ -180,7 +180,8 @@ static void set_up(unsigned shape)
 
 /* ---- the tables */
 
-static unsigned met, missed;
+/* near: nearer to the bar than two runs are to each other */
+static unsigned met, missed, near;
 
 static unsigned faster(const double ns[SIDES], unsigned by_gcc)
 {
@@ -232,6 +233,7 @@ static void print_row(const char *what, const double ns[SIDES], unsigned opponen
         printf(" %3.1f %-10s |", bar, ratio <= bar ? "met" : "**missed**");
         met += ratio <= bar;
         missed += ratio > bar;
+        near += ratio > bar - 0.03 && ratio < bar + 0.03;
     }
     if (opponent == PLAIN) {
         print_ratio(ns[OURS], ns[faster(ns, TUNED)]);
@@ -408,6 +410,6 @@ int main(int count, char **words)
     print_heading("C with matrices", "");
     for (int file = 1; file < files; file++)
         time_programs(programs, words[file], file == 1 ? BAR_PROGRAM : NO_BAR);
-    printf("\n%u bars met, %u missed\n", met, missed);
+    printf("\n%u bars met, %u missed; %u ratios are nearer than 0.03 to their bar\n", met, missed, near);
     return missed ? 1 : 0;
 }
