@@ -204,10 +204,12 @@ static void print_number(double x)
 
 static void print_ratio(double x, double to)
 {
-    if (to > 0)
-        printf(" %9.2f |", x / to);
+    if (to <= 0)
+        printf(" %10s |", "");
+    else if (x / to < 100)
+        printf(" %10.2f |", x / to);
     else
-        printf(" %9s |", "");
+        print_number(x / to);
 }
 
 static void print_heading(const char *opponent, const char *others)
