@@ -4,7 +4,7 @@
 #ifndef NGOLISHEPA_INNER_H
 #define NGOLISHEPA_INNER_H
 
-#include "../include/ngolishepa.h"
+#include "ngolishepa.h"
 
 void ngolishepa_inner_starts(const uint16_t lens[32], size_t k, uint32_t starts[66]);
 
