@@ -1,4 +1,4 @@
--- `listing::pair_out_of_order` meets its contract. The invariant: no pair before i is out of order; the first pair never is. Assumes nothing.
+-- `pairs::pair_out_of_order` meets its contract. The invariant: no pair before i is out of order; the first pair never is. Assumes nothing.
 use Prim.Native.Nat.{ℕ, _+_, _-_, _*_, _/_, _≤_, _<_}
 use mathlib.Core.Path.{_≡_, sym, ap, _∙_}
 use mathlib.Core.Bool.{false, not}
@@ -10,8 +10,8 @@ use borrow.Author.Needs.{needs}
 use borrow.Author.Tests.{lt-ltb, le-ltb}
 use Rattle.rules.specs.Listing.{unitsAbove, outOfOrder}
 use Rattle.rules.proofs.Ranges.{first-le, first-is, first-none}
-use Rattle.listing.proofs.pair_out_of_order.Statement.{statement}
-use Rattle.listing.proofs.pair_out_of_order.Tie as tie
+use Rattle.pairs.proofs.pair_out_of_order.Statement.{statement}
+use Rattle.pairs.proofs.pair_out_of_order.Tie as tie
 
 abbrev Inv-loop : tie.InvT-loop
 Inv-loop needs pairs i₀ i = (1 ≤ i) × (i ≤ length needs / 2) × ((j : ℕ) → j < i → outOfOrder needs j ≡ false)

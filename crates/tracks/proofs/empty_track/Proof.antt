@@ -1,4 +1,4 @@
--- `listing::empty_track` meets its contract. The invariant: no length before q is 0. Assumes nothing.
+-- `tracks::empty_track` meets its contract. The invariant: no length before q is 0. Assumes nothing.
 use Prim.Native.Nat.{ℕ, _-_, _≤_, _<_}
 use mathlib.Core.Path.{_≡_, sym}
 use mathlib.Core.Bool.{false}
@@ -9,8 +9,8 @@ use borrow.Author.Count.{below-more}
 use borrow.Author.Needs.{needs}
 use borrow.Author.Tests.{eq-eqb, ne-eqb}
 use Rattle.rules.proofs.Ranges.{first-is, first-none}
-use Rattle.listing.proofs.empty_track.Statement.{statement}
-use Rattle.listing.proofs.empty_track.Tie as tie
+use Rattle.tracks.proofs.empty_track.Statement.{statement}
+use Rattle.tracks.proofs.empty_track.Tie as tie
 
 abbrev Inv-loop : tie.InvT-loop
 Inv-loop lens k q₀ q = (q ≤ k) × ((p : ℕ) → p < q → eqb (getD lens p 0) 0 ≡ false)

@@ -1,4 +1,4 @@
--- `listing::greatest_track`: after i turns the greatest of the first i entries is known. Assumes nothing.
+-- `tracks::greatest_track`: after i turns the greatest of the first i entries is known. Assumes nothing.
 use Prim.Native.Nat.{_-_, _≤_}
 use mathlib.Core.Path.{_≡_, sym, ap, _∙_}
 use native.Mathlib.Omega.{arith}
@@ -6,8 +6,8 @@ use lib.ListN.{length, getD}
 use borrow.Author.Needs.{needs}
 use Rattle.rules.specs.Ranges.{greatest}
 use Rattle.rules.proofs.Ranges.{greatest-none, greatest-next}
-use Rattle.listing.proofs.greatest_track.Statement.{statement}
-use Rattle.listing.proofs.greatest_track.Tie as tie
+use Rattle.tracks.proofs.greatest_track.Statement.{statement}
+use Rattle.tracks.proofs.greatest_track.Tie as tie
 
 abbrev Inv-loop : tie.InvT-loop
 Inv-loop tracks most₀ i₀ most i = (i ≤ length tracks) × (most ≡ greatest (λ j. getD tracks j 0) i)

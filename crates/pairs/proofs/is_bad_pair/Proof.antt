@@ -1,4 +1,4 @@
--- `listing::is_bad_pair` meets its contract: v below u and u at most n put both between 1 and n. Assumes nothing.
+-- `pairs::is_bad_pair` meets its contract: v below u and u at most n put both between 1 and n. Assumes nothing.
 use Prim.Native.Nat.{ℕ, _≤_, _<_}
 use mathlib.Core.Path.{_≡_, sym, _∙_}
 use mathlib.Core.Bool.{true, false, _&&_}
@@ -10,8 +10,8 @@ use borrow.Author.Tests.{lt-ltb, lt-leb, le-leb, ltb-true, eqb-true, eqb-false, 
 use Rattle.rules.specs.Listing.{within, badUnits}
 use Rattle.rules.proofs.Ranges.{not-both}
 use Rattle.rules.proofs.Verdicts.{and-both, within-is, is-within, not-no}
-use Rattle.listing.proofs.is_bad_pair.Statement.{statement}
-use Rattle.listing.proofs.is_bad_pair.Tie as tie
+use Rattle.pairs.proofs.is_bad_pair.Statement.{statement}
+use Rattle.pairs.proofs.is_bad_pair.Tie as tie
 
 module _ (n u v : ℕ) where
   units-good : u ≤ n → 1 ≤ v → v < u → badUnits n u v ≡ false

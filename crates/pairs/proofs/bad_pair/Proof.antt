@@ -1,4 +1,4 @@
--- `listing::bad_pair` meets its contract. The invariant: no pair before i is bad. Assumes nothing.
+-- `pairs::bad_pair` meets its contract. The invariant: no pair before i is bad. Assumes nothing.
 use Prim.Native.Nat.{ℕ, _-_, _/_, _≤_, _<_}
 use mathlib.Core.Path.{_≡_, sym, _∙_}
 use mathlib.Core.Bool.{false}
@@ -8,8 +8,8 @@ use borrow.Author.Count.{below-more}
 use borrow.Author.Needs.{needs}
 use Rattle.rules.specs.Listing.{badPair}
 use Rattle.rules.proofs.Ranges.{first-is, first-none}
-use Rattle.listing.proofs.bad_pair.Statement.{statement}
-use Rattle.listing.proofs.bad_pair.Tie as tie
+use Rattle.pairs.proofs.bad_pair.Statement.{statement}
+use Rattle.pairs.proofs.bad_pair.Tie as tie
 
 abbrev Inv-loop : tie.InvT-loop
 Inv-loop n needs pairs i₀ i = (i ≤ length needs / 2) × ((j : ℕ) → j < i → badPair n needs j ≡ false)

@@ -1,4 +1,4 @@
--- `listing::bad_track`: where the greatest entry is below k, there is no first of k or more. Assumes nothing.
+-- `tracks::bad_track`: where the greatest entry is below k, there is no first of k or more. Assumes nothing.
 use Prim.Native.Nat.{ℕ, _≤_}
 use mathlib.Core.Path.{_≡_, sym}
 use native.Mathlib.Omega.{arith}
@@ -8,8 +8,8 @@ use borrow.Author.Needs.{needs}
 use borrow.Author.Tests.{lt-leb}
 use Rattle.rules.specs.Ranges.{first, greatest}
 use Rattle.rules.proofs.Ranges.{first-none, greatest-bound}
-use Rattle.listing.proofs.bad_track.Statement.{statement}
-use Rattle.listing.proofs.bad_track.Tie as tie
+use Rattle.tracks.proofs.bad_track.Statement.{statement}
+use Rattle.tracks.proofs.bad_track.Tie as tie
 
 greatest-track-requires : tie.Need-greatest-track-requires
 greatest-track-requires c κs = search needs

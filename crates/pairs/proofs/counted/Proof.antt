@@ -1,8 +1,8 @@
--- `listing::counted` meets its contract: the tests of the code are those of the definition. Assumes nothing.
+-- `pairs::counted` meets its contract: the tests of the code are those of the definition. Assumes nothing.
 use borrow.Author.Tests.{eq-eqb, ne-eqb}
 use Rattle.rules.specs.Listing.{countedNeeds}
-use Rattle.listing.proofs.counted.Statement.{statement}
-use Rattle.listing.proofs.counted.Tie as tie
+use Rattle.pairs.proofs.counted.Statement.{statement}
+use Rattle.pairs.proofs.counted.Tie as tie
 
 returns : tie.Need-returns
 unfolding countedNeeds

@@ -1,4 +1,4 @@
--- `listing::first_from_track` meets its contract. The invariant: no entry before i is k or more. So the entry at which the loop returns is the
+-- `tracks::first_from_track` meets its contract. The invariant: no entry before i is k or more. So the entry at which the loop returns is the
 -- first, and where it runs to the end there is none. Assumes nothing.
 use Prim.Native.Nat.{ℕ, _-_, _≤_, _<_}
 use mathlib.Core.Path.{_≡_, sym}
@@ -10,8 +10,8 @@ use borrow.Author.Count.{below-more}
 use borrow.Author.Needs.{needs}
 use borrow.Author.Tests.{le-leb, lt-leb}
 use Rattle.rules.proofs.Ranges.{first-is, first-none}
-use Rattle.listing.proofs.first_from_track.Statement.{statement}
-use Rattle.listing.proofs.first_from_track.Tie as tie
+use Rattle.tracks.proofs.first_from_track.Statement.{statement}
+use Rattle.tracks.proofs.first_from_track.Tie as tie
 
 abbrev Inv-loop : tie.InvT-loop
 Inv-loop tracks k i₀ i = (i ≤ length tracks) × ((j : ℕ) → j < i → leb k (getD tracks j 0) ≡ false)

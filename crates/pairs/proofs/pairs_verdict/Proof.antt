@@ -1,4 +1,4 @@
--- `listing::pairs_verdict` meets its contract: refusal 4 over all pairs stands before refusal 5 over all pairs, as in the definition.
+-- `pairs::pairs_verdict` meets its contract: refusal 4 over all pairs stands before refusal 5 over all pairs, as in the definition.
 -- Assumes nothing.
 use mathlib.Core.Path.{_≡_, sym, _∙_}
 use borrow.Author.Needs.{needs}
@@ -6,8 +6,8 @@ use Rattle.rules.specs.declared.Refusal.the-variants.{BadPair, PairOrder}
 use Rattle.rules.specs.declared.Verdict.the-variants.{Fine}
 use Rattle.rules.specs.Listing.{pairs, refuseFirst, badPair, outOfOrder, pairsVerdict}
 use Rattle.rules.proofs.Verdicts.{fine-then, refused-then, refuse-at, refuse-end}
-use Rattle.listing.proofs.pairs_verdict.Statement.{statement}
-use Rattle.listing.proofs.pairs_verdict.Tie as tie
+use Rattle.pairs.proofs.pairs_verdict.Statement.{statement}
+use Rattle.pairs.proofs.pairs_verdict.Tie as tie
 
 bad-pair-requires : tie.Need-bad-pair-requires
 bad-pair-requires c κs = search needs

@@ -1,4 +1,4 @@
--- `listing::track_lengths` meets its contract. The invariant: entry q is the count of the units so far in track q. Assumes nothing.
+-- `tracks::track_lengths` meets its contract. The invariant: entry q is the count of the units so far in track q. Assumes nothing.
 use Prim.Native.Nat.{ℕ, _+_, _-_, _≤_, _<_}
 use mathlib.Core.Path.{_≡_, refl, sym, ap, _∙_}
 use mathlib.Core.List.{List}
@@ -11,8 +11,8 @@ use borrow.Author.Needs.{needs}
 use borrow.Author.Tests.{eq-eqb, ne-eqb}
 use Rattle.rules.specs.Listing.{inTrack, size}
 use Rattle.rules.proofs.Ranges.{count-none, count-yes, count-no, count-le, table-is}
-use Rattle.listing.proofs.track_lengths.Statement.{statement}
-use Rattle.listing.proofs.track_lengths.Tie as tie
+use Rattle.tracks.proofs.track_lengths.Statement.{statement}
+use Rattle.tracks.proofs.track_lengths.Tie as tie
 
 abbrev Inv-loop : tie.InvT-loop
 Inv-loop tracks lens₀ i₀ lens i = (i ≤ length tracks) × (length lens ≡ 32) × ((q : ℕ) → q < 32 → getD lens q 0 ≡ inTrack tracks q i)

@@ -1,8 +1,8 @@
--- `listing::is_above` meets its contract: the tests of the code are those of the definition. Assumes nothing.
+-- `pairs::is_above` meets its contract: the tests of the code are those of the definition. Assumes nothing.
 use borrow.Author.Tests.{lt-ltb, le-ltb, eq-eqb, ne-eqb}
 use Rattle.rules.specs.Listing.{unitsAbove}
-use Rattle.listing.proofs.is_above.Statement.{statement}
-use Rattle.listing.proofs.is_above.Tie as tie
+use Rattle.pairs.proofs.is_above.Statement.{statement}
+use Rattle.pairs.proofs.is_above.Tie as tie
 
 returns : tie.Need-returns
 unfolding unitsAbove
