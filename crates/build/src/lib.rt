@@ -153,7 +153,7 @@ pub fn build(
     if let Verdict::Refused(refusal) = listing::check(n, k, tracks, needs) {
         return refused(refusal);
     }
-    let lens = listing::track_lengths(tracks);
+    let lens = tracks::track_lengths(tracks);
     let tracks_count = k as usize;
     let row = layout::row_starts(&lens, tracks_count);
     let count = (row[tracks_count] as usize + 63) / 64;

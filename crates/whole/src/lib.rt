@@ -20,7 +20,7 @@ fn lengths_true(lens: &[u16; 32], tracks: &[u16], k: usize) -> bool
     requires { ⌜ (length (now tracks) ≤ 1024) × ((i : ℕ) → i < length (now tracks) → getD (now tracks) i 0 < 32) ⌝ }
     ensures { λ r. ⌜ r ≡ lengthsTrue (now (lens .entry)) k (now (tracks .entry)) ⌝ }
 {
-    let counts = listing::track_lengths(tracks);
+    let counts = tracks::track_lengths(tracks);
     let mut right = true;
     let mut q: usize = 0;
     while q < 32 {
@@ -166,7 +166,7 @@ pub fn judge(head: Head, tracks: &[u16], words: &[u64], directory: &[u16]) -> Ju
     if n == 0 || rules::MAX_UNITS < n || k == 0 || rules::MAX_TRACKS < k {
         return faulty(1);
     }
-    if tracks.len() != n as usize || listing::bad_track(tracks, k) < tracks.len() {
+    if tracks.len() != n as usize || tracks::bad_track(tracks, k) < tracks.len() {
         return faulty(2);
     }
     if !lengths_true(&lens, tracks, k as usize) {

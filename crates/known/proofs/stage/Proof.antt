@@ -38,7 +38,7 @@ add-stage c = omega arith
 highest-step-requires : tie.Need-highest-step-requires Inv-loop μ-loop
 highest-step-requires c κs =
     let g = entry (c .before) in
-    (g .pre .0, record { from = c .loop-test .taken; to = omega (arith, g .pre .1 .to) })
+    (g .pre .0, record { from = omega arith; to = omega (arith, g .pre .1 .to) })
 
 loop-less : tie.Need-loop-less Inv-loop μ-loop
 loop-less c =

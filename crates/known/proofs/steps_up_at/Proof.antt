@@ -66,7 +66,7 @@ reaches-none-requires c κs =
     let l = c .before .before .before .before in
     let g = entry l in
     let here = c .before .before .before .loop-test .taken in
-    (g .pre .0, (record { in-track = here; from = g .pre .1 (l .loop .q) here; to = c .if1 .taken }, g .pre .1))
+    (g .pre .0, (record { in-track = here; from = g .pre .1 (l .loop .q) here; to = omega arith }, g .pre .1))
 
 mul-from : tie.Need-mul-from Inv-loop μ-loop
 mul-from c = omega arith
