@@ -18,6 +18,7 @@ pub mod Areas
 pub mod Builds
 pub mod Redrawn
 pub mod Demands
+pub mod Tellings
 pub mod Cases
 pub mod Refusing
 pub mod Stages
