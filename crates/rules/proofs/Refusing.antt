@@ -169,9 +169,9 @@ module _ (c : Listing) (words directory work : List ℕ) where
   unfolding buildVerdict filledVerdict
   build-1-to-5 number place a z = (
     (λ h. let r = told-refused (buildVerdict c words directory work) a h in
-    ap toldVerdict (same (r .0) (omega (arith, r .1)) .0 (r .2) ∙ sym (r .2)) ∙ h),
+        ap toldVerdict (same (r .0) (omega (arith, r .1)) .0 (r .2) ∙ sym (r .2)) ∙ h),
     (λ h. let r = told-refused (listingVerdict c) a h in
-    ap toldVerdict (same (r .0) (omega (arith, r .1)) .1 (r .2) ∙ sym (r .2)) ∙ h),
+        ap toldVerdict (same (r .0) (omega (arith, r .1)) .1 (r .2) ∙ sym (r .2)) ∙ h),
   )
     where
       same : (r : Refusal) → numberOf r ≤ 5 → (buildVerdict c words directory work ≡ Refused r) ↔ (listingVerdict c ≡ Refused r)
