@@ -5,9 +5,7 @@ use mathlib.Core.Path.{_≡_, refl, sym, subst}
 use mathlib.Core.List.{List, [], _∷_, _++_, map}
 use lib.Count.{ones}
 use lib.ListN.{replicate}
-use Rattle.rules.specs.declared.Refusal.the-variants.{UnsoundTrack, ShortList}
-use Rattle.rules.specs.declared.NumberAnswer.the-variants.{Number, Refused as NumberRefused}
-use Rattle.rules.specs.declared.Verdict.the-variants.{Fine, Refused}
+use Rattle.rules.specs.declared.Verdict.the-variants.{Fine}
 use Rattle.rules.specs.declared.PairTold.{PairTold}
 use Rattle.rules.specs.declared.NumberTold.{NumberTold}
 use Rattle.rules.specs.Ranges.{sum, bit1, count, greatest, smallest, first, some, every, keep, table, rows, over}
@@ -18,7 +16,7 @@ use Rattle.rules.specs.Bits.{digit, bit, wordOf, onesBefore, placeOfOne,
 use Rattle.rules.specs.Index.{oneAt, builtBit, builtWords, builtDirectory, builtHead, builtWork, builtBits, Index, vectorOf, vector, lowAt, lowIn, highAt, highIn, inRange, tracksFit, lengthsTrue, areasReach, spareClear, directoryTrue, vectorsTrue, conditions, firstFailing, fault, whole}
 use Rattle.rules.specs.Questions.{kind10By, kind11By, unitsWhere, unitAt}
 use Rattle.rules.specs.Outcomes.{roomVerdict, filledVerdict, buildVerdict, buildOutcome, wholeVerdict, pairOutcome, boundOutcome, listRoom, writtenFrom, listAnswer, listOutcome, needsOutcome, isStepOutcome, stepsUpOutcome, unitHighOutcome}
-use Rattle.rules.specs.Told.{ListTold, toldVerdict, toldPair, toldNumber, toldList}
+use Rattle.rules.specs.Told.{refused, answeredNumber, refusedList, ListTold, toldVerdict, toldPair, toldNumber, toldList}
 use Rattle.rules.proofs.Builds.{Build, outcomeOf, indexOf}
 
 abbrev pub six : Listing
@@ -57,18 +55,18 @@ pub record Case : Type 0 where
   pub said : List ℕ
 
 -- what a call tells, in a row: the number and the place of its refusal, and its answer
-abbrev built : Build → List ℕ
-built b = toldVerdict (outcomeOf b .answer .verdict) .number ∷ toldVerdict (outcomeOf b .answer .verdict) .place ∷ outcomeOf b .answer .bits ∷ []
+abbrev buildRow : Build → List ℕ
+buildRow b = toldVerdict (outcomeOf b .answer .verdict) .number ∷ toldVerdict (outcomeOf b .answer .verdict) .place ∷ outcomeOf b .answer .bits ∷ []
 
-abbrev paired : PairTold → List ℕ
-paired t = t .refusal .number ∷ t .refusal .place ∷ bit1 (t .yes) ∷ []
+abbrev pairRow : PairTold → List ℕ
+pairRow t = t .refusal .number ∷ t .refusal .place ∷ bit1 (t .yes) ∷ []
 
-abbrev numbered : NumberTold → List ℕ
-numbered t = t .refusal .number ∷ t .refusal .place ∷ t .number ∷ []
+abbrev numberRow : NumberTold → List ℕ
+numberRow t = t .refusal .number ∷ t .refusal .place ∷ t .number ∷ []
 
 -- with the lent list as it then is
-abbrev listed : ListTold → List ℕ
-listed t = numbered (t .answer) ++ t .list
+abbrev listRow : ListTold → List ℕ
+listRow t = numberRow (t .answer) ++ t .list
 
 -- yes and no, with no refusal
 abbrev saidYes : List ℕ
@@ -77,22 +75,27 @@ saidYes = 0 ∷ 0 ∷ 1 ∷ []
 abbrev saidNo : List ℕ
 saidNo = 0 ∷ 0 ∷ 0 ∷ []
 
--- the build of the six units, P1 to P11 of the index that it leaves, and P12, the build of the single unit
+-- of the build of the six units, the index that it leaves, and the build of the single unit
 pub cases : Build → Index → Build → List Case
-cases b x single =
-    record { given = built b; said = 0 ∷ 0 ∷ 12 ∷ [] }
+cases b x second =
+    -- accepted, 12 bits
+    record { given = buildRow b; said = 0 ∷ 0 ∷ 12 ∷ [] }
+    -- P1 to P3
     ∷ record { given = table (vector x 0 1) 6; said = 1 ∷ 1 ∷ 1 ∷ 0 ∷ 1 ∷ 0 ∷ [] }
     ∷ record { given = table (vector x 1 0) 6; said = 0 ∷ 1 ∷ 0 ∷ 1 ∷ 0 ∷ 0 ∷ [] }
     ∷ record { given = x .words ++ (onesBefore (x .words) 1 ∷ []); said = 663 ∷ 6 ∷ [] }
-    ∷ record { given = paired (toldPair (needsOutcome x 6 1)); said = saidYes }
-    ∷ record { given = paired (toldPair (isStepOutcome x 6 1)); said = saidNo }
-    ∷ record { given = paired (toldPair (isStepOutcome x 5 2)); said = saidYes }
-    ∷ record { given = paired (toldPair (needsOutcome x 2 2)); said = saidNo }
-    ∷ record { given = highIn x 3 0 ∷ numbered (toldNumber (unitHighOutcome x 3 0)); said = 4 ∷ 0 ∷ 0 ∷ 6 ∷ [] }
-    ∷ record { given = highIn x 2 1 ∷ numbered (toldNumber (unitHighOutcome x 2 1)); said = 2 ∷ 0 ∷ 0 ∷ 5 ∷ [] }
+    -- P4 to P7
+    ∷ record { given = pairRow (toldPair (needsOutcome x 6 1)); said = saidYes }
+    ∷ record { given = pairRow (toldPair (isStepOutcome x 6 1)); said = saidNo }
+    ∷ record { given = pairRow (toldPair (isStepOutcome x 5 2)); said = saidYes }
+    ∷ record { given = pairRow (toldPair (needsOutcome x 2 2)); said = saidNo }
+    -- P8 to P10
+    ∷ record { given = highIn x 3 0 ∷ numberRow (toldNumber (unitHighOutcome x 3 0)); said = 4 ∷ 0 ∷ 0 ∷ 6 ∷ [] }
+    ∷ record { given = highIn x 2 1 ∷ numberRow (toldNumber (unitHighOutcome x 2 1)); said = 2 ∷ 0 ∷ 0 ∷ 5 ∷ [] }
     ∷ record { given = lowIn x 4 1 ∷ []; said = 0 ∷ [] }
-    ∷ record { given = listed (toldList (stepsUpOutcome x 1 (9 ∷ 9 ∷ 9 ∷ []) 1)); said = 0 ∷ 0 ∷ 2 ∷ 9 ∷ 2 ∷ 3 ∷ [] }
-    ∷ record { given = built single; said = 0 ∷ 0 ∷ 0 ∷ [] }
+    -- P11, written from place 1 of a list of nines on, and P12
+    ∷ record { given = listRow (toldList (stepsUpOutcome x 1 (9 ∷ 9 ∷ 9 ∷ []) 1)); said = 0 ∷ 0 ∷ 2 ∷ 9 ∷ 2 ∷ 3 ∷ [] }
+    ∷ record { given = buildRow second; said = 0 ∷ 0 ∷ 0 ∷ [] }
     ∷ []
 
 -- the build's index by computation, so that no case computes it again
@@ -112,14 +115,14 @@ P1-to-P12 =
 abbrev pub unsoundThree : Listing
 unsoundThree = record { n = 3; k = 2; tracks = 0 ∷ 0 ∷ 1 ∷ []; needs = 3 ∷ 1 ∷ [] }
 
-pub unsound-case : (soundVerdict unsoundThree ≡ Refused (UnsoundTrack 2)) × (builtWork unsoundThree ≡ 0 ∷ 0 ∷ 0 ∷ 0 ∷ 1 ∷ 0 ∷ [])
+pub unsound-case : (toldVerdict (soundVerdict unsoundThree) ≡ refused 7 2) × (builtWork unsoundThree ≡ 0 ∷ 0 ∷ 0 ∷ 0 ∷ 1 ∷ 0 ∷ [])
 unfolding soundVerdict refuseFirst first unsound unitBefore greatest needs leads some track inTrack count builtWork rows table low
 unsound-case = (refl, refl)
 
 -- the units 2 and 3 written so that they end exactly at the end of the area, and refused one entry past
-pub list-ends : (listAnswer (listRoom (2 ∷ 3 ∷ []) (9 ∷ 9 ∷ 9 ∷ []) 1) (2 ∷ 3 ∷ []) (9 ∷ 9 ∷ 9 ∷ []) 1
-    ≡ record { answer = Number 2; list = 9 ∷ 2 ∷ 3 ∷ [] })
-    × (listAnswer (listRoom (2 ∷ 3 ∷ []) (9 ∷ 9 ∷ 9 ∷ []) 2) (2 ∷ 3 ∷ []) (9 ∷ 9 ∷ 9 ∷ []) 2
-    ≡ record { answer = NumberRefused (ShortList 2); list = 9 ∷ 9 ∷ 9 ∷ [] })
+pub list-ends : (toldList (listAnswer (listRoom (2 ∷ 3 ∷ []) (9 ∷ 9 ∷ 9 ∷ []) 1) (2 ∷ 3 ∷ []) (9 ∷ 9 ∷ 9 ∷ []) 1)
+    ≡ record { answer = answeredNumber 2; list = 9 ∷ 2 ∷ 3 ∷ [] })
+    × (toldList (listAnswer (listRoom (2 ∷ 3 ∷ []) (9 ∷ 9 ∷ 9 ∷ []) 2) (2 ∷ 3 ∷ []) (9 ∷ 9 ∷ 9 ∷ []) 2)
+    ≡ refusedList 10 2 (9 ∷ 9 ∷ 9 ∷ []))
 unfolding listAnswer listRoom writtenFrom over
 list-ends = (refl, refl)

@@ -7,6 +7,7 @@ use mathlib.Core.Bool.{Bool, true, _&&_}
 use mathlib.Core.List.{List}
 use mathlib.Core.Logic.{_↔_, Iff·trans, inl, inr}
 use native.Mathlib.Omega.{arith}
+use native.Mathlib.Decide.{decLt}
 use lib.ListN.{length, getD}
 use lib.Dec.{leb}
 use borrow.Author.Tests.{le-leb, leb-true}
@@ -20,10 +21,10 @@ use Rattle.rules.specs.Ranges.{count}
 use Rattle.rules.specs.Listing.{Listing, listing, Listed, within}
 use Rattle.rules.specs.Order.{Needs, DirectStep, Stage, needs, step, stage, directSteps, soundVerdict, low, high}
 use Rattle.rules.specs.Index.{builtHead, builtBits}
-use Rattle.rules.specs.Questions.{kind10, kind11, kind12, kind13, kind14, kind15, kind16, kind17, kind18, unitsWhere, unitAt}
-use Rattle.rules.specs.Outcomes.{roomVerdict, filledVerdict, buildVerdict, buildOutcome, wholeVerdict, pairAnswer, pairOutcome, unitOutcome, boundOutcome, listRoom, listAnswer, listOutcome}
+use Rattle.rules.specs.Questions.{kind10, kind11, kind16, kind17, kind18, unitsWhere, unitAt}
+use Rattle.rules.specs.Outcomes.{roomVerdict, filledVerdict, buildVerdict, buildOutcome, wholeVerdict, pairAnswer, pairOutcome, unitOutcome, boundOutcome, ListOutcome, listRoom, listAnswer, listOutcome}
 use Rattle.rules.specs.Outcomes.{needsOutcome, isStepOutcome, neededOutcome, needingOutcome, stepsOutcome, stepsUpOutcome, stageOutcome, unitLowOutcome, unitHighOutcome}
-use Rattle.rules.specs.Told.{answeredPair, answeredNumber, answeredList, toldPair, toldNumber, toldList}
+use Rattle.rules.specs.Told.{answeredPair, answeredNumber, answeredList, refusedList, toldPair, toldNumber, toldList}
 use Rattle.rules.proofs.Ranges.{Kept, kept, keep-at, keep-ascends, length-keep, count-past, units-same}
 use Rattle.rules.proofs.Verdicts.{and-both, both-and, within-is, same-test, then-fine, unless-fine, fine-unless}
 use Rattle.rules.proofs.Needs.{Descending, needs-path, path-needs, needs-in, steps-listed, step-direct, direct-step, steps-same, needs-same}
@@ -37,7 +38,7 @@ use Rattle.rules.proofs.Builds.{Build, outcomeOf, indexOf, filled, room
 use Rattle.rules.proofs.Redrawn.{words-redrawn, directory-redrawn, work-redrawn, sound-redrawn}
 use Rattle.rules.proofs.Checks.{Off}
 use Rattle.rules.proofs.Cases.{NoPlace}
-use Rattle.rules.proofs.Refusing.{pair-answers, unit-answers, bound-answers, list-answers}
+use Rattle.rules.proofs.Refusing.{pair-answers, unit-answers, bound-answers, list-10, list-answers}
 
 -- u is one of the units of the build's course
 pub record CourseUnit (b : Build) (u : ℕ) : Type 0 where
@@ -46,9 +47,9 @@ pub record CourseUnit (b : Build) (u : ℕ) : Type 0 where
 
 -- ---- the answers on a build's index
 
-on : {m u : ℕ} → 1 ≤ u → u ≤ m → Off m u → ⊥
-on l h (inl o) = omega arith
-on l h (inr o) = omega arith
+not-off : {m u : ℕ} → 1 ≤ u → u ≤ m → Off m u → ⊥
+not-off l h (inl o) = omega arith
+not-off l h (inr o) = omega arith
 
 module _ (b : Build) where
   head-units : indexOf b .head .n ≡ b .course .n
@@ -59,31 +60,40 @@ module _ (b : Build) where
   unfolding buildOutcome builtHead
   head-tracks = rw (b .accepted)
 
-  whole-is-built : Whole (indexOf b)
-  whole-is-built = whole-is (indexOf b) (whole-index b)
+  index-whole : Whole (indexOf b)
+  index-whole = whole-is (indexOf b) (whole-index b)
 
   unit-on : (u : ℕ) → CourseUnit b u → Off (indexOf b .head .n) u → ⊥
-  unit-on u i = on (i .from) (omega (arith, i .to, head-units))
+  unit-on u i = not-off (i .from) (omega (arith, i .to, head-units))
 
   -- no refusal comes between two units and their answer
   pub pair-answered : (u v : ℕ) → CourseUnit b u → CourseUnit b v → (answer : Bool) → toldPair (pairOutcome (indexOf b) u v answer) ≡ answeredPair answer
-  pair-answered u v i j answer = pair-answers (indexOf b) u v answer .1 (whole-is-built, unit-on u i, unit-on v j)
+  pair-answered u v i j answer = pair-answers (indexOf b) u v answer .1 (index-whole, unit-on u i, unit-on v j)
 
   -- nor between a unit and its stage, nor between a unit with a track and its bound
   pub unit-answered : (u : ℕ) → CourseUnit b u → (answer : ℕ) → toldNumber (unitOutcome (indexOf b) u answer) ≡ answeredNumber answer
-  unit-answered u i answer = unit-answers (indexOf b) u answer .1 (whole-is-built, unit-on u i)
+  unit-answered u i answer = unit-answers (indexOf b) u answer .1 (index-whole, unit-on u i)
 
   pub bound-answered : (u q : ℕ) → CourseUnit b u → q < b .course .k → (answer : ℕ) → toldNumber (boundOutcome (indexOf b) u q answer) ≡ answeredNumber answer
-  bound-answered u q i l answer = bound-answers (indexOf b) u q answer .1 (whole-is-built, unit-on u i, λ h. omega (arith, head-tracks))
+  bound-answered u q i l answer = bound-answers (indexOf b) u q answer .1 (index-whole, unit-on u i, λ h. omega (arith, head-tracks))
 
   -- nor between a unit and its list, where the named place leaves room for it
-  pub list-answered : (u : ℕ) → CourseUnit b u → (units list : List ℕ) (at : ℕ) → at + length units ≤ length list
+  list-answered : (u : ℕ) → CourseUnit b u → (units list : List ℕ) (at : ℕ) → at + length units ≤ length list
       → toldList (listOutcome (indexOf b) u units list at) ≡ answeredList units list at
-  list-answered u i units list at h = list-answers (indexOf b) u units list at .1 (whole-is-built, unit-on u i, room)
+  list-answered u i units list at h = list-answers (indexOf b) u units list at .1 (index-whole, unit-on u i, room)
     where
       room : NoPlace units list at → ⊥
       room (inl o) = omega arith
       room (inr o) = omega arith
+
+  -- where it does not, refusal 10 tells the count
+  list-short : (u : ℕ) → CourseUnit b u → (units list : List ℕ) (at : ℕ) → length list < at + length units
+      → toldList (listOutcome (indexOf b) u units list at) ≡ refusedList 10 (length units) list
+  list-short u i units list at h = list-10 (indexOf b) u units list at (length units) .1 (index-whole, unit-on u i, refl, past (decLt (length list) at))
+    where
+      past : Dec (length list < at) → NoPlace units list at
+      past (yes l) = inl l
+      past (no n) = inr (omega arith)
 
 -- what is told of an answered question is its answer
 pair-exactly : {P : Type 0} {o : PairTold} {t : Bool} (s : Bool) → o ≡ answeredPair t → (t ≡ s) ↔ P → (o ≡ answeredPair s) ↔ P
@@ -94,25 +104,32 @@ number-exactly s h = Iff·trans ((λ e. ap (λ (p : NumberTold). p .number) (sym
 
 -- ---- the second demand
 
--- the list holds exactly the units that P says, each once, ascending
-pub record Exactly (n : ℕ) (P : ℕ → Type 0) (units : List ℕ) : Type 0 where
+-- the list holds exactly the numbers of which P holds, each once, ascending
+pub record Exactly (P : ℕ → Type 0) (units : List ℕ) : Type 0 where
   pub ascending : (c d : ℕ) → c < d → d < length units → getD units c 0 < getD units d 0
   pub only : (c : ℕ) → c < length units → P (getD units c 0)
-  pub all : (v : ℕ) → 1 ≤ v → v ≤ n → P v → (c : ℕ) × (c < length units) × (getD units c 0 ≡ v)
+  pub all : (v : ℕ) → P v → (c : ℕ) × (c < length units) × (getD units c 0 ≡ v)
 
-units-exactly : (n : ℕ) (t : ℕ → Bool) (P : ℕ → Type 0) → ((v : ℕ) → 1 ≤ v → v ≤ n → t v ≡ true → P v) → ((v : ℕ) → 1 ≤ v → v ≤ n → P v → t v ≡ true)
-    → Exactly n P (unitsWhere t n)
+-- the call lists exactly these: it writes them where the named place leaves room and tells their count, and else is refused with that count
+pub record ListsExactly (P : ℕ → Type 0) (call : List ℕ → ℕ → ListOutcome) : Type 0 where
+  pub units : List ℕ
+  pub exactly : Exactly P units
+  pub written : (list : List ℕ) (at : ℕ) → at + length units ≤ length list → toldList (call list at) ≡ answeredList units list at
+  pub short : (list : List ℕ) (at : ℕ) → length list < at + length units → toldList (call list at) ≡ refusedList 10 (length units) list
+
+units-exactly : (n : ℕ) (t : ℕ → Bool) (P : ℕ → Type 0) → ((v : ℕ) → P v → (1 ≤ v) × (v ≤ n)) → ((v : ℕ) → 1 ≤ v → v ≤ n → (t v ≡ true) ↔ P v)
+    → Exactly P (unitsWhere t n)
 unfolding unitsWhere
-units-exactly n t P to from = record {
+units-exactly n t P inside tells = record {
   ascending = λ c d h l. keep-ascends (λ v. leb 1 v && t v) (suc n) c d h l;
   only = λ c l. at-place c (kept (λ v. leb 1 v && t v) (suc n) c l);
-  all = λ v a z p. place v a z (both-and (le-leb 1 v a) (from v a z p));
+  all = λ v p. let i = inside v p in place v (i .0) (i .1) (both-and (le-leb 1 v (i .0)) (tells v (i .0) (i .1) .1 p));
 }
   where
     at-place : (c : ℕ) → Kept (λ v. leb 1 v && t v) (suc n) c → P (getD (unitsWhere t n) c 0)
     at-place c r =
         let s = and-both (leb 1 (r .number)) (t (r .number)) (r .passes) in
-        rw (r .stands) (to (r .number) (leb-true 1 (r .number) (s .0)) (omega (arith, r .below)) (s .1))
+        rw (r .stands) (tells (r .number) (leb-true 1 (r .number) (s .0)) (omega (arith, r .below)) .0 (s .1))
 
     place : (v : ℕ) → 1 ≤ v → v ≤ n → (leb 1 v && t v) ≡ true → (c : ℕ) × (c < length (unitsWhere t n)) × (getD (unitsWhere t n) c 0 ≡ v)
     place v a z p = (
@@ -125,45 +142,55 @@ module _ (b : Build) where
   down : Descending (b .course .needs)
   down = accepted-course b .needs-pairs .goes-down
 
-  -- "u needs v" is yes exactly when listed needs lead from u to v in one hop or more
-  pub needs-yes : (u v : ℕ) → CourseUnit b u → CourseUnit b v → (toldPair (needsOutcome (indexOf b) u v) ≡ answeredPair true) ↔ Needs (b .course .needs) u v
-  needs-yes u v i j = pair-exactly true (pair-answered b u v i j (kind10 (indexOf b) u v))
-      ((λ t. needs-path (sym same ∙ t)), (λ p. same ∙ path-needs (b .course .needs) down p))
+  -- both ends of a path are units of the course
+  needs-units : {u v : ℕ} → Needs (b .course .needs) u v → CourseUnit b u × CourseUnit b v
+  needs-units p =
+      let r = needs-in (accepted-course b .needs-pairs) p in
+      (record { from = omega arith; to = r .2 }, record { from = r .0; to = omega arith })
+
+  -- what the tests of kinds 10 and 11 tell of two units
+  kind10-tells : (u v : ℕ) → CourseUnit b u → CourseUnit b v → (kind10 (indexOf b) u v ≡ true) ↔ Needs (b .course .needs) u v
+  kind10-tells u v i j = (λ t. needs-path (sym same ∙ t), λ p. same ∙ path-needs (b .course .needs) down p)
     where
       same : kind10 (indexOf b) u v ≡ needs (b .course .needs) u v
       same = kind10-index b u v (i .from) (i .to) (j .from) (j .to)
 
-  -- "v is a direct step of u" is yes exactly when u needs v and no third unit lies between
-  pub step-yes : (u v : ℕ) → CourseUnit b u → CourseUnit b v → (toldPair (isStepOutcome (indexOf b) u v) ≡ answeredPair true) ↔ DirectStep (b .course .needs) u v
-  step-yes u v i j = pair-exactly true (pair-answered b u v i j (kind11 (indexOf b) u v))
-      ((λ t. step-direct (b .course .needs) down (sym same ∙ t)), (λ p. same ∙ direct-step (b .course .needs) down p))
+  kind11-tells : (u v : ℕ) → CourseUnit b u → CourseUnit b v → (kind11 (indexOf b) u v ≡ true) ↔ DirectStep (b .course .needs) u v
+  kind11-tells u v i j = (λ t. step-direct (b .course .needs) down (sym same ∙ t), λ p. same ∙ direct-step (b .course .needs) down p)
     where
       same : kind11 (indexOf b) u v ≡ step (b .course .needs) u v
       same = kind11-index b u v (i .from) (i .to) (j .from) (j .to)
 
-  pub needed-list : (u : ℕ) → CourseUnit b u → Exactly (b .course .n) (λ v. Needs (b .course .needs) u v) (kind12 (indexOf b) u)
-  needed-list u i = rw (head-units b)
-      (units-exactly (b .course .n) (λ v. kind10 (indexOf b) u v) (λ v. Needs (b .course .needs) u v)
-      (λ v a z t. needs-path (sym (kind10-index b u v (i .from) (i .to) a z) ∙ t))
-      (λ v a z p. kind10-index b u v (i .from) (i .to) a z ∙ path-needs (b .course .needs) down p))
+  -- "u needs v" is yes exactly when listed needs lead from u to v in one hop or more
+  pub needs-yes : (u v : ℕ) → CourseUnit b u → CourseUnit b v → (toldPair (needsOutcome (indexOf b) u v) ≡ answeredPair true) ↔ Needs (b .course .needs) u v
+  needs-yes u v i j = pair-exactly true (pair-answered b u v i j (kind10 (indexOf b) u v)) (kind10-tells u v i j)
 
-  pub needing-list : (u : ℕ) → CourseUnit b u → Exactly (b .course .n) (λ v. Needs (b .course .needs) v u) (kind13 (indexOf b) u)
-  needing-list u i = rw (head-units b)
-      (units-exactly (b .course .n) (λ v. kind10 (indexOf b) v u) (λ v. Needs (b .course .needs) v u)
-      (λ v a z t. needs-path (sym (kind10-index b v u a z (i .from) (i .to)) ∙ t))
-      (λ v a z p. kind10-index b v u a z (i .from) (i .to) ∙ path-needs (b .course .needs) down p))
+  -- "v is a direct step of u" is yes exactly when u needs v and no third unit lies between
+  pub step-yes : (u v : ℕ) → CourseUnit b u → CourseUnit b v → (toldPair (isStepOutcome (indexOf b) u v) ≡ answeredPair true) ↔ DirectStep (b .course .needs) u v
+  step-yes u v i j = pair-exactly true (pair-answered b u v i j (kind11 (indexOf b) u v)) (kind11-tells u v i j)
 
-  pub steps-list : (u : ℕ) → CourseUnit b u → Exactly (b .course .n) (λ v. DirectStep (b .course .needs) u v) (kind14 (indexOf b) u)
-  steps-list u i = rw (head-units b)
-      (units-exactly (b .course .n) (λ v. kind11 (indexOf b) u v) (λ v. DirectStep (b .course .needs) u v)
-      (λ v a z t. step-direct (b .course .needs) down (sym (kind11-index b u v (i .from) (i .to) a z) ∙ t))
-      (λ v a z p. kind11-index b u v (i .from) (i .to) a z ∙ direct-step (b .course .needs) down p))
+  -- a list by the test of its units
+  lists-by : (u : ℕ) → CourseUnit b u → (t : ℕ → Bool) (P : ℕ → Type 0) → ((v : ℕ) → P v → CourseUnit b v) → ((v : ℕ) → CourseUnit b v → (t v ≡ true) ↔ P v)
+      → ListsExactly P (λ list at. listOutcome (indexOf b) u (unitsWhere t (indexOf b .head .n)) list at)
+  lists-by u i t P inside tells = record {
+    units = unitsWhere t (indexOf b .head .n);
+    exactly = rw (head-units b) (units-exactly (b .course .n) t P (λ v p. (inside v p .from, inside v p .to)) (λ v a z. tells v (record { from = a; to = z })));
+    written = list-answered b u i (unitsWhere t (indexOf b .head .n));
+    short = list-short b u i (unitsWhere t (indexOf b .head .n));
+  }
 
-  pub steps-up-list : (u : ℕ) → CourseUnit b u → Exactly (b .course .n) (λ v. DirectStep (b .course .needs) v u) (kind15 (indexOf b) u)
-  steps-up-list u i = rw (head-units b)
-      (units-exactly (b .course .n) (λ v. kind11 (indexOf b) v u) (λ v. DirectStep (b .course .needs) v u)
-      (λ v a z t. step-direct (b .course .needs) down (sym (kind11-index b v u a z (i .from) (i .to)) ∙ t))
-      (λ v a z p. kind11-index b v u a z (i .from) (i .to) ∙ direct-step (b .course .needs) down p))
+  -- kinds 12 to 15
+  pub needed-list : (u : ℕ) → CourseUnit b u → ListsExactly (λ v. Needs (b .course .needs) u v) (neededOutcome (indexOf b) u)
+  needed-list u i = lists-by u i _ _ (λ v p. needs-units p .1) (λ v j. kind10-tells u v i j)
+
+  pub needing-list : (u : ℕ) → CourseUnit b u → ListsExactly (λ v. Needs (b .course .needs) v u) (needingOutcome (indexOf b) u)
+  needing-list u i = lists-by u i _ _ (λ v p. needs-units p .0) (λ v j. kind10-tells v u j i)
+
+  pub steps-list : (u : ℕ) → CourseUnit b u → ListsExactly (λ v. DirectStep (b .course .needs) u v) (stepsOutcome (indexOf b) u)
+  steps-list u i = lists-by u i _ _ (λ v d. needs-units (d .path) .1) (λ v j. kind11-tells u v i j)
+
+  pub steps-up-list : (u : ℕ) → CourseUnit b u → ListsExactly (λ v. DirectStep (b .course .needs) v u) (stepsUpOutcome (indexOf b) u)
+  steps-up-list u i = lists-by u i _ _ (λ v d. needs-units (d .path) .0) (λ v j. kind11-tells v u j i)
 
   -- for n units in k tracks the vectors take 2n(k - 1) bits
   pub vectors-take : outcomeOf b .answer .bits ≡ 2 * (b .course .n * (b .course .k - 1))
@@ -256,8 +283,8 @@ list-alike (Refused r) xs ys list at h = refl
 
 -- accepted listings of the same units
 module _ (a b : Build) (units : b .course .n ≡ a .course .n) where
-  here : (u : ℕ) → CourseUnit a u → CourseUnit b u
-  here u i = record { from = i .from; to = rw units (i .to) }
+  same-unit : (u : ℕ) → CourseUnit a u → CourseUnit b u
+  same-unit u i = record { from = i .from; to = rw units (i .to) }
 
   pairs-alike : (p q : ℕ → ℕ → Bool) → ((u v : ℕ) → CourseUnit a u → CourseUnit a v → p u v ≡ q u v)
       → (u v : ℕ) → pairOutcome (indexOf a) u v (p u v) ≡ pairOutcome (indexOf b) u v (q u v)
@@ -299,15 +326,9 @@ module _ (a b : Build) (units : b .course .n ≡ a .course .n) where
 
   agree-needs : ((u v : ℕ) → needs (a .course .needs) u v ≡ needs (b .course .needs) u v) → Agree a b
   agree-needs h = agree-kinds
-      (λ u v i j. kind10-index a u v (i .from) (i .to) (j .from) (j .to) ∙ h u v ∙ sym (kind10-index b u v (i .from) (here u i .to) (j .from) (here v j .to)))
+      (λ u v i j. kind10-index a u v (i .from) (i .to) (j .from) (j .to) ∙ h u v ∙ sym (kind10-index b u v (i .from) (same-unit u i .to) (j .from) (same-unit v j .to)))
       (λ u v i j. kind11-index a u v (i .from) (i .to) (j .from) (j .to) ∙ steps-same (a .course .needs) (b .course .needs) h u v
-      ∙ sym (kind11-index b u v (i .from) (here u i .to) (j .from) (here v j .to)))
-
-  -- the units of a direct step
-  step-units : (u v : ℕ) → DirectStep (a .course .needs) u v → CourseUnit a u × CourseUnit a v
-  step-units u v d =
-      let r = needs-in (accepted-course a .needs-pairs) (d .path) in
-      (record { from = omega arith; to = r .2 }, record { from = r .0; to = omega arith })
+      ∙ sym (kind11-index b u v (i .from) (same-unit u i .to) (j .from) (same-unit v j .to)))
 
   -- kind 11 answers the units alike
   abbrev StepsAlike : Type 0
@@ -316,14 +337,14 @@ module _ (a b : Build) (units : b .course .n ≡ a .course .n) where
   -- then each direct step of one is a direct step of the other
   steps-cross : StepsAlike → (u v : ℕ) → DirectStep (a .course .needs) u v → DirectStep (b .course .needs) u v
   steps-cross g u v d =
-      let i = step-units u v d in
-      step-yes b u v (here u (i .0)) (here v (i .1)) .0 (ap toldPair (sym (g u v (i .0) (i .1))) ∙ step-yes a u v (i .0) (i .1) .1 d)
+      let i = needs-units a (d .path) in
+      step-yes b u v (same-unit u (i .0)) (same-unit v (i .1)) .0 (ap toldPair (sym (g u v (i .0) (i .1))) ∙ step-yes a u v (i .0) (i .1) .1 d)
 
 -- kind 11 alone, asked of the units, tells the direct steps
 steps-told : (a b : Build) (units : b .course .n ≡ a .course .n) → StepsAlike a b units → SameSteps a b
 steps-told a b units g u v = (
   steps-cross a b units g u v,
-  steps-cross b a (sym units) (λ u v i j. sym (g u v (here b a (sym units) u i) (here b a (sym units) v j))) u v,
+  steps-cross b a (sym units) (λ u v i j. sym (g u v (same-unit b a (sym units) u i) (same-unit b a (sym units) v j))) u v,
 )
 
 -- two agree on every pair and every list exactly when their direct steps are the same

@@ -44,30 +44,30 @@ Clear c = (Outside c → ⊥) × None (NoTrack c) × None (NoUnit c) × None (Wr
 module _ (c : Listing) where
   pub listing-1 : (toldVerdict (listingVerdict c) ≡ refused 1 0) ↔ Outside c
   unfolding listingVerdict
-  listing-1 = verdict-told (Refused OutOfLimits) (here
+  listing-1 = Iff·trans (verdict-told _ (Refused OutOfLimits)) (here
       (then-never (tracks-never c (λ e. omega arith)) (then-never (units-never c (λ e. omega arith)) (pairs-never (c .n) (c .needs) (λ e. omega arith) (λ e. omega arith))))
       (limits-at c))
 
   pub listing-2 : (u : ℕ) → (toldVerdict (listingVerdict c) ≡ refused 2 u) ↔ ((Outside c → ⊥) × Smallest (NoTrack c) u)
   unfolding listingVerdict
-  listing-2 u = verdict-told (Refused (NoSuchTrack u)) (after (limits-never c (λ e. omega arith)) (limits-clear c)
+  listing-2 u = Iff·trans (verdict-told _ (Refused (NoSuchTrack u))) (after (limits-never c (λ e. omega arith)) (limits-clear c)
       (λ f. here (then-never (units-never c (λ e. omega arith)) (pairs-never (c .n) (c .needs) (λ e. omega arith) (λ e. omega arith))) (tracks-at c u)))
 
   pub listing-3 : (q : ℕ) → (toldVerdict (listingVerdict c) ≡ refused 3 q) ↔ ((Outside c → ⊥) × None (NoTrack c) × Smallest (NoUnit c) q)
   unfolding listingVerdict
-  listing-3 q = verdict-told (Refused (EmptyTrack q)) (Iff·trans (after (limits-never c (λ e. omega arith)) (limits-clear c) (λ f. after (tracks-never c (λ e. omega arith)) (tracks-clear c)
+  listing-3 q = Iff·trans (verdict-told _ (Refused (EmptyTrack q))) (Iff·trans (after (limits-never c (λ e. omega arith)) (limits-clear c) (λ f. after (tracks-never c (λ e. omega arith)) (tracks-clear c)
       (λ g. here (pairs-never (c .n) (c .needs) (λ e. omega arith) (λ e. omega arith)) (units-at c (long-list c f) q)))) flat3)
 
   pub listing-4 : (i : ℕ) → (toldVerdict (listingVerdict c) ≡ refused 4 i)
       ↔ ((Outside c → ⊥) × None (NoTrack c) × None (NoUnit c) × Smallest (WrongPair (c .n) (c .needs)) i)
   unfolding listingVerdict
-  listing-4 i = verdict-told (Refused (BadPair i)) (Iff·trans (after (limits-never c (λ e. omega arith)) (limits-clear c) (λ f. after (tracks-never c (λ e. omega arith)) (tracks-clear c)
+  listing-4 i = Iff·trans (verdict-told _ (Refused (BadPair i))) (Iff·trans (after (limits-never c (λ e. omega arith)) (limits-clear c) (λ f. after (tracks-never c (λ e. omega arith)) (tracks-clear c)
       (λ g. after (units-never c (λ e. omega arith)) (units-clear c (long-list c f)) (λ h. pairs-4 (c .n) (c .needs) i)))) flat4)
 
   pub listing-5 : (i : ℕ) → (toldVerdict (listingVerdict c) ≡ refused 5 i)
       ↔ ((Outside c → ⊥) × None (NoTrack c) × None (NoUnit c) × None (WrongPair (c .n) (c .needs)) × Smallest (NotAbove (c .needs)) i)
   unfolding listingVerdict
-  listing-5 i = verdict-told (Refused (PairOrder i)) (Iff·trans (after (limits-never c (λ e. omega arith)) (limits-clear c) (λ f. after (tracks-never c (λ e. omega arith)) (tracks-clear c)
+  listing-5 i = Iff·trans (verdict-told _ (Refused (PairOrder i))) (Iff·trans (after (limits-never c (λ e. omega arith)) (limits-clear c) (λ f. after (tracks-never c (λ e. omega arith)) (tracks-clear c)
       (λ g. after (units-never c (λ e. omega arith)) (units-clear c (long-list c f)) (λ h. pairs-5 (c .n) (c .needs) i)))) flat5)
 
   listing-clear : (listingVerdict c ≡ Fine) ↔ Clear c
@@ -77,7 +77,7 @@ module _ (c : Listing) where
       flat5
 
   pub listing-accepts : (toldVerdict (listingVerdict c) ≡ noRefusal) ↔ Clear c
-  listing-accepts = verdict-told Fine listing-clear
+  listing-accepts = Iff·trans (verdict-told _ Fine) listing-clear
 
   listing-never : {r : Refusal} → 5 < numberOf r → Never (listingVerdict c) r
   unfolding listingVerdict
@@ -105,25 +105,25 @@ module _ (l : List ℕ) (u : ℕ) where
 
   pub part-8 : (w : ℕ) → (toldVerdict (partVerdict l u) ≡ refused 8 w) ↔ ((w ≡ 1) × Off 1024 u)
   unfolding partVerdict
-  part-8 w = verdict-told (Refused (BadArgument w)) (here (then-never (counted-never (λ e. omega arith)) (pairs-never 1024 l (λ e. omega arith) (λ e. omega arith))) (argument-at 1 (within-fails 1024 u) w))
+  part-8 w = Iff·trans (verdict-told _ (Refused (BadArgument w))) (here (then-never (counted-never (λ e. omega arith)) (pairs-never 1024 l (λ e. omega arith) (λ e. omega arith))) (argument-at 1 (within-fails 1024 u) w))
 
   pub part-1 : (toldVerdict (partVerdict l u) ≡ refused 1 0) ↔ ((Off 1024 u → ⊥) × Uncounted l)
   unfolding partVerdict
-  part-1 = verdict-told (Refused OutOfLimits) (after (unit-never (λ e. omega arith)) unit-clear
+  part-1 = Iff·trans (verdict-told _ (Refused OutOfLimits)) (after (unit-never (λ e. omega arith)) unit-clear
       (λ f. here (pairs-never 1024 l (λ e. omega arith) (λ e. omega arith)) (unless-at OutOfLimits (counted-fails l))))
 
   pub part-4 : (i : ℕ) → (toldVerdict (partVerdict l u) ≡ refused 4 i) ↔ ((Off 1024 u → ⊥) × (Uncounted l → ⊥) × Smallest (WrongPair 1024 l) i)
   unfolding partVerdict
-  part-4 i = verdict-told (Refused (BadPair i)) (Iff·trans (after (unit-never (λ e. omega arith)) unit-clear (λ f. after (counted-never (λ e. omega arith)) counted-clear (λ g. pairs-4 1024 l i))) flat3)
+  part-4 i = Iff·trans (verdict-told _ (Refused (BadPair i))) (Iff·trans (after (unit-never (λ e. omega arith)) unit-clear (λ f. after (counted-never (λ e. omega arith)) counted-clear (λ g. pairs-4 1024 l i))) flat3)
 
   pub part-5 : (i : ℕ) → (toldVerdict (partVerdict l u) ≡ refused 5 i)
       ↔ ((Off 1024 u → ⊥) × (Uncounted l → ⊥) × None (WrongPair 1024 l) × Smallest (NotAbove l) i)
   unfolding partVerdict
-  part-5 i = verdict-told (Refused (PairOrder i)) (Iff·trans (after (unit-never (λ e. omega arith)) unit-clear (λ f. after (counted-never (λ e. omega arith)) counted-clear (λ g. pairs-5 1024 l i))) flat4)
+  part-5 i = Iff·trans (verdict-told _ (Refused (PairOrder i))) (Iff·trans (after (unit-never (λ e. omega arith)) unit-clear (λ f. after (counted-never (λ e. omega arith)) counted-clear (λ g. pairs-5 1024 l i))) flat4)
 
   pub part-accepts : (toldVerdict (partVerdict l u) ≡ noRefusal) ↔ ((Off 1024 u → ⊥) × (Uncounted l → ⊥) × None (WrongPair 1024 l) × None (NotAbove l))
   unfolding partVerdict
-  part-accepts = verdict-told Fine (Iff·trans (both-fine unit-clear (λ f. both-fine counted-clear (λ g. pairs-clear 1024 l))) flat4)
+  part-accepts = Iff·trans (verdict-told _ Fine) (Iff·trans (both-fine unit-clear (λ f. both-fine counted-clear (λ g. pairs-clear 1024 l))) flat4)
 
   pub part-others : Among (0 ∷ 8 ∷ 1 ∷ 4 ∷ 5 ∷ []) (toldVerdict (partVerdict l u) .number)
   unfolding partVerdict
@@ -137,7 +137,7 @@ module _ (l : List ℕ) (u : ℕ) where
 
   pub part-given : toldVerdict (partVerdict l u) ≡ noRefusal → partOutcome l u ≡ pairsFrom l u (pairs l)
   unfolding partOutcome
-  part-given h = let e : partVerdict l u ≡ Fine = verdict-told Fine Iff·rfl .0 h in rw e
+  part-given h = let e : partVerdict l u ≡ Fine = verdict-told _ Fine .0 h in rw e
 
 -- ---- build::build
 
@@ -179,19 +179,19 @@ module _ (c : Listing) (words directory work : List ℕ) where
 
   pub build-6 : (toldVerdict (buildVerdict c words directory work) ≡ refused 6 0) ↔ (Clear c × NoRoom c words directory work)
   unfolding buildVerdict filledVerdict
-  build-6 = verdict-told (Refused ShortArea)
+  build-6 = Iff·trans (verdict-told _ (Refused ShortArea))
       (here (sound-never c (λ e. omega arith)) (after (listing-never c (omega arith)) (listing-clear c) (λ f. room-at c words directory work)))
 
   pub build-7 : (u : ℕ) → (toldVerdict (buildVerdict c words directory work) ≡ refused 7 u)
       ↔ (Clear c × (NoRoom c words directory work → ⊥) × Smallest (Unsound c) u)
   unfolding buildVerdict filledVerdict
-  build-7 u = verdict-told (Refused (UnsoundTrack u)) (Iff·trans
+  build-7 u = Iff·trans (verdict-told _ (Refused (UnsoundTrack u))) (Iff·trans
       (after (then-never (listing-never c (omega arith)) (room-never c words directory work (λ e. omega arith))) filled-clear
       (λ f. sound-at c (filled-down f) u)) flat-left)
 
   pub build-accepts : (toldVerdict (buildVerdict c words directory work) ≡ noRefusal) ↔ (Clear c × (NoRoom c words directory work → ⊥) × None (Unsound c))
   unfolding buildVerdict
-  build-accepts = verdict-told Fine (Iff·trans (both-fine filled-clear (λ f. sound-clear c (filled-down f))) flat-left)
+  build-accepts = Iff·trans (verdict-told _ Fine) (Iff·trans (both-fine filled-clear (λ f. sound-clear c (filled-down f))) flat-left)
 
   pub build-others : toldVerdict (buildVerdict c words directory work) .number ≤ 7
   unfolding buildVerdict filledVerdict
@@ -224,7 +224,7 @@ module _ (c : Listing) (words directory work : List ℕ) where
   build-writes-work {u} h =
       let g = build-7 c words directory work u .0 h in
       let f : filledVerdict c words directory work ≡ Fine = filled-clear c words directory work .1 (g .0, g .1) in
-      let e : buildVerdict c words directory work ≡ Refused (UnsoundTrack u) = verdict-told (Refused (UnsoundTrack u)) Iff·rfl .0 h in
+      let e : buildVerdict c words directory work ≡ Refused (UnsoundTrack u) = verdict-told _ (Refused (UnsoundTrack u)) .0 h in
       rw (e, f)
 
 -- ---- whole::check
@@ -243,10 +243,10 @@ module _ (x : Index) where
   whole-never n = unless-never (whole x) NotWhole (λ e. n (sym e))
 
   pub whole-9 : (toldVerdict (wholeVerdict x) ≡ refused 9 0) ↔ (Whole x → ⊥)
-  whole-9 = verdict-told (Refused NotWhole) whole-at
+  whole-9 = Iff·trans (verdict-told _ (Refused NotWhole)) whole-at
 
   pub whole-accepts : (toldVerdict (wholeVerdict x) ≡ noRefusal) ↔ Whole x
-  whole-accepts = verdict-told Fine whole-clear
+  whole-accepts = Iff·trans (verdict-told _ Fine) whole-clear
 
   pub whole-others : Among (0 ∷ 9 ∷ []) (toldVerdict (wholeVerdict x) .number)
   whole-others = told-among _ (9 ∷ []) (λ r n. whole-never (λ e. n (inl e)))
@@ -291,16 +291,16 @@ module _ (x : Index) {b d : Bool} {P Q : Type 0} (f : Fails b P) (g : Fails d Q)
 module _ (x : Index) (u v : ℕ) (answer : Bool) where
   pub pair-9 : (toldPair (pairOutcome x u v answer) ≡ refusedPair 9 0) ↔ (Whole x → ⊥)
   unfolding pairOutcome
-  pair-9 = pair-told (pair.Refused NotWhole) (Iff·trans (pair-refused _ answer _) (two-9 x (within-fails (x .head .n) u) (within-fails (x .head .n) v)))
+  pair-9 = Iff·trans (pair-told _ (pair.Refused NotWhole)) (Iff·trans (pair-refused _ answer _) (two-9 x (within-fails (x .head .n) u) (within-fails (x .head .n) v)))
 
   pub pair-8 : (w : ℕ) → (toldPair (pairOutcome x u v answer) ≡ refusedPair 8 w) ↔ (Whole x × FirstBad (Off (x .head .n) u) (Off (x .head .n) v) w)
   unfolding pairOutcome
-  pair-8 w = pair-told (pair.Refused (BadArgument w)) (Iff·trans (pair-refused _ answer _) (two-8 x (within-fails (x .head .n) u) (within-fails (x .head .n) v) w))
+  pair-8 w = Iff·trans (pair-told _ (pair.Refused (BadArgument w))) (Iff·trans (pair-refused _ answer _) (two-8 x (within-fails (x .head .n) u) (within-fails (x .head .n) v) w))
 
   pub pair-answers : (toldPair (pairOutcome x u v answer) ≡ answeredPair answer) ↔ (Whole x × (Off (x .head .n) u → ⊥) × (Off (x .head .n) v → ⊥))
   unfolding pairOutcome
   pair-answers = rw (sym (yes-tells answer))
-      (pair-told (yesOrNo answer) (Iff·trans (pair-given _ answer) (two-clear x (within-fails (x .head .n) u) (within-fails (x .head .n) v))))
+      (Iff·trans (pair-told _ (yesOrNo answer)) (Iff·trans (pair-given _ answer) (two-clear x (within-fails (x .head .n) u) (within-fails (x .head .n) v))))
 
   pub pair-others : Among (0 ∷ 9 ∷ 8 ∷ []) (toldPair (pairOutcome x u v answer) .refusal .number)
   unfolding pairOutcome
@@ -310,15 +310,15 @@ module _ (x : Index) (u v : ℕ) (answer : Bool) where
 module _ (x : Index) (u q answer : ℕ) where
   pub bound-9 : (toldNumber (boundOutcome x u q answer) ≡ refusedNumber 9 0) ↔ (Whole x → ⊥)
   unfolding boundOutcome
-  bound-9 = number-told (number.Refused NotWhole) (Iff·trans (number-refused _ answer _) (two-9 x (within-fails (x .head .n) u) (ltb-fails q (x .head .k))))
+  bound-9 = Iff·trans (number-told _ (number.Refused NotWhole)) (Iff·trans (number-refused _ answer _) (two-9 x (within-fails (x .head .n) u) (ltb-fails q (x .head .k))))
 
   pub bound-8 : (w : ℕ) → (toldNumber (boundOutcome x u q answer) ≡ refusedNumber 8 w) ↔ (Whole x × FirstBad (Off (x .head .n) u) (x .head .k ≤ q) w)
   unfolding boundOutcome
-  bound-8 w = number-told (number.Refused (BadArgument w)) (Iff·trans (number-refused _ answer _) (two-8 x (within-fails (x .head .n) u) (ltb-fails q (x .head .k)) w))
+  bound-8 w = Iff·trans (number-told _ (number.Refused (BadArgument w))) (Iff·trans (number-refused _ answer _) (two-8 x (within-fails (x .head .n) u) (ltb-fails q (x .head .k)) w))
 
   pub bound-answers : (toldNumber (boundOutcome x u q answer) ≡ answeredNumber answer) ↔ (Whole x × (Off (x .head .n) u → ⊥) × (x .head .k ≤ q → ⊥))
   unfolding boundOutcome
-  bound-answers = number-told (number.Number answer) (Iff·trans (number-given _ answer) (two-clear x (within-fails (x .head .n) u) (ltb-fails q (x .head .k))))
+  bound-answers = Iff·trans (number-told _ (number.Number answer)) (Iff·trans (number-given _ answer) (two-clear x (within-fails (x .head .n) u) (ltb-fails q (x .head .k))))
 
   pub bound-others : Among (0 ∷ 9 ∷ 8 ∷ []) (toldNumber (boundOutcome x u q answer) .refusal .number)
   unfolding boundOutcome
@@ -328,17 +328,17 @@ module _ (x : Index) (u q answer : ℕ) where
 module _ (x : Index) (u answer : ℕ) where
   pub unit-9 : (toldNumber (unitOutcome x u answer) ≡ refusedNumber 9 0) ↔ (Whole x → ⊥)
   unfolding unitOutcome
-  unit-9 = number-told (number.Refused NotWhole)
+  unit-9 = Iff·trans (number-told _ (number.Refused NotWhole))
       (Iff·trans (number-refused _ answer _) (here (argument-never 1 (within-fails (x .head .n) u) (λ e. omega arith)) (whole-at x)))
 
   pub unit-8 : (w : ℕ) → (toldNumber (unitOutcome x u answer) ≡ refusedNumber 8 w) ↔ (Whole x × (w ≡ 1) × Off (x .head .n) u)
   unfolding unitOutcome
-  unit-8 w = number-told (number.Refused (BadArgument w)) (Iff·trans (number-refused _ answer _)
+  unit-8 w = Iff·trans (number-told _ (number.Refused (BadArgument w))) (Iff·trans (number-refused _ answer _)
       (Iff·trans (after (whole-never x (λ e. omega arith)) (whole-clear x) (λ h. argument-at 1 (within-fails (x .head .n) u) w)) flat3))
 
   pub unit-answers : (toldNumber (unitOutcome x u answer) ≡ answeredNumber answer) ↔ (Whole x × (Off (x .head .n) u → ⊥))
   unfolding unitOutcome
-  unit-answers = number-told (number.Number answer)
+  unit-answers = Iff·trans (number-told _ (number.Number answer))
       (Iff·trans (number-given _ answer) (both-fine (whole-clear x) (λ h. argument-clear 1 (within-fails (x .head .n) u))))
 
   pub unit-others : Among (0 ∷ 9 ∷ 8 ∷ []) (toldNumber (unitOutcome x u answer) .refusal .number)
@@ -350,23 +350,23 @@ module _ (x : Index) (u answer : ℕ) where
 module _ (x : Index) (u : ℕ) (units list : List ℕ) (at : ℕ) where
   pub list-9 : (toldList (listOutcome x u units list at) ≡ refusedList 9 0 list) ↔ (Whole x → ⊥)
   unfolding listOutcome
-  list-9 = list-told (keptList NotWhole list) (Iff·trans (list-refused _ units list at _)
+  list-9 = Iff·trans (list-told _ (keptList NotWhole list)) (Iff·trans (list-refused _ units list at _)
       (here (then-never (argument-never 1 (within-fails (x .head .n) u) (λ e. omega arith)) (place-never units list at (λ e. omega arith))) (whole-at x)))
 
   pub list-8 : (w : ℕ) → (toldList (listOutcome x u units list at) ≡ refusedList 8 w list) ↔ (Whole x × (w ≡ 1) × Off (x .head .n) u)
   unfolding listOutcome
-  list-8 w = list-told (keptList (BadArgument w) list) (Iff·trans (list-refused _ units list at _) (Iff·trans (after (whole-never x (λ e. omega arith)) (whole-clear x)
+  list-8 w = Iff·trans (list-told _ (keptList (BadArgument w) list)) (Iff·trans (list-refused _ units list at _) (Iff·trans (after (whole-never x (λ e. omega arith)) (whole-clear x)
       (λ h. here (place-never units list at (λ e. omega arith)) (argument-at 1 (within-fails (x .head .n) u) w))) flat3))
 
   pub list-10 : (count : ℕ) → (toldList (listOutcome x u units list at) ≡ refusedList 10 count list)
       ↔ (Whole x × (Off (x .head .n) u → ⊥) × (count ≡ length units) × NoPlace units list at)
   unfolding listOutcome
-  list-10 count = list-told (keptList (ShortList count) list) (Iff·trans (list-refused _ units list at _) (Iff·trans (after (whole-never x (λ e. omega arith)) (whole-clear x)
+  list-10 count = Iff·trans (list-told _ (keptList (ShortList count) list)) (Iff·trans (list-refused _ units list at _) (Iff·trans (after (whole-never x (λ e. omega arith)) (whole-clear x)
       (λ h. after (argument-never 1 (within-fails (x .head .n) u) (λ e. omega arith)) (argument-clear 1 (within-fails (x .head .n) u)) (λ k. place-at units list at count))) flat4))
 
   pub list-answers : (toldList (listOutcome x u units list at) ≡ answeredList units list at) ↔ (Whole x × (Off (x .head .n) u → ⊥) × (NoPlace units list at → ⊥))
   unfolding listOutcome
-  list-answers = list-told (givenList units list at) (Iff·trans (list-given _ units list at) (Iff·trans (both-fine (whole-clear x)
+  list-answers = Iff·trans (list-told _ (givenList units list at)) (Iff·trans (list-given _ units list at) (Iff·trans (both-fine (whole-clear x)
       (λ h. both-fine (argument-clear 1 (within-fails (x .head .n) u)) (λ k. place-clear units list at))) flat3))
 
   pub list-others : Among (0 ∷ 9 ∷ 8 ∷ 10 ∷ []) (toldList (listOutcome x u units list at) .answer .refusal .number)

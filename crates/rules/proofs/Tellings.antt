@@ -4,7 +4,7 @@ use Prim.Native.Nat.{ℕ, _≤_, _<_, zero-le}
 use mathlib.Core.Path.{_≡_, refl, sym, ap, _∙_}
 use mathlib.Core.Bool.{Bool, true, false}
 use mathlib.Core.List.{List, [], _∷_}
-use mathlib.Core.Logic.{_↔_, Iff·trans, _⊎_, inl, inr}
+use mathlib.Core.Logic.{_↔_, _⊎_, inl, inr}
 use native.Mathlib.Omega.{arith}
 use native.Mathlib.Decide.{decLe, ℕ-discrete}
 use lib.ListN.{getD}
@@ -46,11 +46,11 @@ verdictOf t =
     (t .number)
     Fine
 
-abbrev pairOf : PairTold → PairAnswer
-pairOf t = pairAnswer (verdictOf (t .refusal)) (t .yes)
+abbrev pairAnswerOf : PairTold → PairAnswer
+pairAnswerOf t = pairAnswer (verdictOf (t .refusal)) (t .yes)
 
-abbrev numberOfTold : NumberTold → NumberAnswer
-numberOfTold t = numberAnswer (verdictOf (t .refusal)) (t .number)
+abbrev numberAnswerOf : NumberTold → NumberAnswer
+numberAnswerOf t = numberAnswer (verdictOf (t .refusal)) (t .number)
 
 refusal-back : (r : Refusal) → verdictOf (toldRefusal r) ≡ Refused r
 refusal-back OutOfLimits = refl
@@ -70,35 +70,34 @@ verdict-back : (v : Verdict) → verdictOf (toldVerdict v) ≡ v
 verdict-back Fine = refl
 verdict-back (Refused r) = refusal-back r
 
-pair-back : (a : PairAnswer) → pairOf (toldPair a) ≡ a
+pair-back : (a : PairAnswer) → pairAnswerOf (toldPair a) ≡ a
 pair-back pair.Yes = refl
 pair-back pair.No = refl
 pair-back (pair.Refused r) = rw (refusal-back r)
 
-number-back : (a : NumberAnswer) → numberOfTold (toldNumber a) ≡ a
+number-back : (a : NumberAnswer) → numberAnswerOf (toldNumber a) ≡ a
 number-back (number.Number answer) = refl
 number-back (number.Refused r) = rw (refusal-back r)
 
--- ---- so a case of an answer is a case of what is told of it
+-- ---- what is told of two answers is the same exactly when the answers are
 
-module _ {A : Type 0} where
-  pub verdict-told : {v : Verdict} (w : Verdict) → (v ≡ w) ↔ A → (toldVerdict v ≡ toldVerdict w) ↔ A
-  verdict-told {v} w = Iff·trans ((λ h. sym (verdict-back v) ∙ ap verdictOf h ∙ verdict-back w), ap toldVerdict)
+pub verdict-told : (v w : Verdict) → (toldVerdict v ≡ toldVerdict w) ↔ (v ≡ w)
+verdict-told v w = (λ h. sym (verdict-back v) ∙ ap verdictOf h ∙ verdict-back w, ap toldVerdict)
 
-  pub pair-told : {a : PairAnswer} (b : PairAnswer) → (a ≡ b) ↔ A → (toldPair a ≡ toldPair b) ↔ A
-  pair-told {a} b = Iff·trans ((λ h. sym (pair-back a) ∙ ap pairOf h ∙ pair-back b), ap toldPair)
+pub pair-told : (a b : PairAnswer) → (toldPair a ≡ toldPair b) ↔ (a ≡ b)
+pair-told a b = (λ h. sym (pair-back a) ∙ ap pairAnswerOf h ∙ pair-back b, ap toldPair)
 
-  pub number-told : {a : NumberAnswer} (b : NumberAnswer) → (a ≡ b) ↔ A → (toldNumber a ≡ toldNumber b) ↔ A
-  number-told {a} b = Iff·trans ((λ h. sym (number-back a) ∙ ap numberOfTold h ∙ number-back b), ap toldNumber)
+pub number-told : (a b : NumberAnswer) → (toldNumber a ≡ toldNumber b) ↔ (a ≡ b)
+number-told a b = (λ h. sym (number-back a) ∙ ap numberAnswerOf h ∙ number-back b, ap toldNumber)
 
-  pub list-told : {o : ListOutcome} (p : ListOutcome) → (o ≡ p) ↔ A → (toldList o ≡ toldList p) ↔ A
-  list-told {o} p = Iff·trans (back, ap toldList)
-    where
-      back : toldList o ≡ toldList p → o ≡ p
-      back h =
-          let e : o .answer ≡ p .answer = sym (number-back (o .answer)) ∙ ap (λ (t : ListTold). numberOfTold (t .answer)) h ∙ number-back (p .answer) in
-          let f : o .list ≡ p .list = ap (λ (t : ListTold). t .list) h in
-          rw (e, f)
+pub list-told : (o p : ListOutcome) → (toldList o ≡ toldList p) ↔ (o ≡ p)
+list-told o p = (back, ap toldList)
+  where
+    back : toldList o ≡ toldList p → o ≡ p
+    back h =
+        let e : o .answer ≡ p .answer = number-told (o .answer) (p .answer) .0 (ap (λ (t : ListTold). t .answer) h) in
+        let f : o .list ≡ p .list = ap (λ (t : ListTold). t .list) h in
+        rw (e, f)
 
 -- ---- which numbers come
 
