@@ -34,35 +34,38 @@ pub record FirstNeeding (c : Listing) (u q v : ℕ) : Type 0 where
 abbrev pub NoneNeeding : Listing → ℕ → ℕ → Type 0
 NoneNeeding c u q = (w : ℕ) → track (c .tracks) w ≡ q → Needs (c .needs) w u → ⊥
 
--- ---- a number that is a unit of which P holds, of no other, or 0 where none is
+-- ---- a number that is a unit of which P holds, or 0 where N says that there is none
 
-module _ {P : ℕ → Type 0} {N : Type 0} {t : ℕ} (found : ((1 ≤ t) × P t) ⊎ ((t ≡ 0) × N)) where
+abbrev Found : (ℕ → Type 0) → Type 0 → ℕ → Type 0
+Found P N t = ((1 ≤ t) × P t) ⊎ ((t ≡ 0) × N)
+
+module _ {P : ℕ → Type 0} {N : Type 0} {t : ℕ} (found : Found P N t) where
   one-exactly : ((v w : ℕ) → P v → P w → v ≡ w) → ((v : ℕ) → P v → N → ⊥) → (v : ℕ) → 1 ≤ v → (t ≡ v) ↔ P v
   one-exactly once either v l = (to found, from found)
     where
-      to : ((1 ≤ t) × P t) ⊎ ((t ≡ 0) × N) → t ≡ v → P v
+      to : Found P N t → t ≡ v → P v
       to (inl f) e = subst P e (f .1)
       to (inr f) e = absurd (omega (arith, f .0))
 
-      from : ((1 ≤ t) × P t) ⊎ ((t ≡ 0) × N) → P v → t ≡ v
+      from : Found P N t → P v → t ≡ v
       from (inl f) p = once t v (f .1) p
       from (inr f) p = absurd (either v p (f .1))
 
   none-exactly : ((v : ℕ) → P v → N → ⊥) → (t ≡ 0) ↔ N
   none-exactly either = (to found, from found)
     where
-      to : ((1 ≤ t) × P t) ⊎ ((t ≡ 0) × N) → t ≡ 0 → N
+      to : Found P N t → t ≡ 0 → N
       to (inl f) e = absurd (omega (arith, f .0))
       to (inr f) e = f .1
 
-      from : ((1 ≤ t) × P t) ⊎ ((t ≡ 0) × N) → N → t ≡ 0
+      from : Found P N t → N → t ≡ 0
       from (inl f) n = absurd (either t (f .1) n)
       from (inr f) n = f .0
 
 -- ---- low
 
 module _ (c : Listing) (a : Accepted c) (u q : ℕ) where
-  low-found : ((1 ≤ unitAt (c .tracks) q (low c u q)) × LastNeeded c u q (unitAt (c .tracks) q (low c u q))) ⊎ ((unitAt (c .tracks) q (low c u q) ≡ 0) × NoneNeeded c u q)
+  low-found : Found (LastNeeded c u q) (NoneNeeded c u q) (unitAt (c .tracks) q (low c u q))
   low-found = go (decLt 0 (low c u q))
     where
       bound : (w : ℕ) → track (c .tracks) w ≡ q → Needs (c .needs) u w → (1 ≤ position (c .tracks) w) × (position (c .tracks) w ≤ low c u q)
@@ -84,7 +87,7 @@ module _ (c : Listing) (a : Accepted c) (u q : ℕ) where
           let i = needs-in (a .needs-pairs) (needs-path (m .needed)) in
           unit-is (c .tracks) q (low c u q) (m .unit) (i .0) (omega (arith, a .tracks-long)) (m .in-q) (m .at-low)
 
-      go : Dec (0 < low c u q) → ((1 ≤ unitAt (c .tracks) q (low c u q)) × LastNeeded c u q (unitAt (c .tracks) q (low c u q))) ⊎ ((unitAt (c .tracks) q (low c u q) ≡ 0) × NoneNeeded c u q)
+      go : Dec (0 < low c u q) → Found (LastNeeded c u q) (NoneNeeded c u q) (unitAt (c .tracks) q (low c u q))
       go (yes h) = let m = low-met c a u q h in inl (subst (λ (t : ℕ). (1 ≤ t) × LastNeeded c u q t) (sym (at-low m)) (met m))
       go (no n) = inr (unit-none (c .tracks) q (low c u q) (inl (omega arith)), λ w t p. omega (arith, bound w t p))
 
@@ -99,7 +102,7 @@ module _ (c : Listing) (a : Accepted c) (u q : ℕ) where
 -- ---- high, with sound tracks
 
 module _ (c : Listing) (a : Accepted c) (sound : soundVerdict c ≡ Fine) (u q : ℕ) where
-  high-found : ((1 ≤ unitAt (c .tracks) q (high c u q)) × FirstNeeding c u q (unitAt (c .tracks) q (high c u q))) ⊎ ((unitAt (c .tracks) q (high c u q) ≡ 0) × NoneNeeding c u q)
+  high-found : Found (FirstNeeding c u q) (NoneNeeding c u q) (unitAt (c .tracks) q (high c u q))
   high-found = go (decLe (high c u q) (size (c .tracks) q))
     where
       bound : (w : ℕ) → track (c .tracks) w ≡ q → Needs (c .needs) w u → (high c u q ≤ position (c .tracks) w) × (position (c .tracks) w ≤ size (c .tracks) q)
@@ -123,7 +126,7 @@ module _ (c : Listing) (a : Accepted c) (sound : soundVerdict c ≡ Fine) (u q :
       at-high m = unit-is (c .tracks) q (high c u q) (m .unit) (m .from) (omega (arith, a .tracks-long, m .to)) (m .in-q) (m .at-high)
 
       go : Dec (high c u q ≤ size (c .tracks) q)
-          → ((1 ≤ unitAt (c .tracks) q (high c u q)) × FirstNeeding c u q (unitAt (c .tracks) q (high c u q))) ⊎ ((unitAt (c .tracks) q (high c u q) ≡ 0) × NoneNeeding c u q)
+          → Found (FirstNeeding c u q) (NoneNeeding c u q) (unitAt (c .tracks) q (high c u q))
       go (yes h) = let m = high-met c a sound u q h in inl (subst (λ (t : ℕ). (1 ≤ t) × FirstNeeding c u q t) (sym (at-high m)) (met m))
       go (no n) = inr (unit-none (c .tracks) q (high c u q) (inr (omega arith)), λ w t p. omega (arith, bound w t p))
 
