@@ -1,5 +1,5 @@
 // The questions of an index that is known to be whole, exported for the benchmark alone; no header of the library declares them.
-use ngolishepa::NumberTold;
+use rules::NumberTold;
 ghost use Prim.Native.Nat.{_≤_};
 ghost use mathlib.Core.Path.{_≡_};
 ghost use Rattle.rules.specs.Index.{lensOf};
@@ -7,7 +7,7 @@ ghost use Rattle.rules.specs.Questions.{kind10, kind11, kind12, kind13, kind14,
 ghost use Rattle.rules.specs.Outcomes.{listRoom, listAnswer};
 ghost use Rattle.layout.specs.Starts.{rowStarts};
 ghost use Rattle.known.specs.Asked.{parts, Sure, UnitOf};
-ghost use Rattle.ngolishepa.specs.Told.{toldList};
+ghost use Rattle.rules.specs.Told.{toldList};
 
 // Fills the table by which a vector is found.
 #[no_mangle]

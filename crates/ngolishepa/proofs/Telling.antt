@@ -6,21 +6,19 @@ use mathlib.Core.List.{List}
 use Rattle.rules.specs.declared.Refusal.{Refusal}
 use Rattle.rules.specs.declared.Built.{Built}
 use Rattle.rules.specs.declared.NumberAnswer.{NumberAnswer}
+use Rattle.rules.specs.declared.Told.{Told}
+use Rattle.rules.specs.declared.PairTold.{PairTold}
+use Rattle.rules.specs.declared.NumberTold.{NumberTold}
 use Rattle.rules.specs.Refusals.{numberOf, placeOf}
 use Rattle.rules.specs.Outcomes.{BuildOutcome, ListOutcome, partVerdict}
+use Rattle.rules.specs.Told.{refused, toldRefusal, toldVerdict, toldNumber, ListTold, toldList}
 use Rattle.build.specs.Ones.{outcome}
 use Rattle.lists.specs.Spans.{listed}
 use Rattle.listing.specs.declared.Span.{Span}
 use Rattle.listing.specs.Spans.{partSpan}
-use Rattle.ngolishepa.specs.declared.Told.{Told}
-use Rattle.ngolishepa.specs.declared.PairTold.{PairTold}
-use Rattle.ngolishepa.specs.declared.NumberTold.{NumberTold}
 use Rattle.ngolishepa.specs.declared.PartTold.{PartTold}
 use Rattle.ngolishepa.specs.declared.BuiltTold.{BuiltTold}
-use Rattle.ngolishepa.specs.Told.{toldRefusal, toldVerdict, toldPair, toldNumber, ListTold, toldList, BuildTold, toldBuild, toldPart}
-
-abbrev pub told : ℕ → ℕ → Told
-told number place = record { number = number; place = place }
+use Rattle.ngolishepa.specs.Told.{BuildTold, toldBuild, toldPart}
 
 abbrev pub pairTold : Told → Bool → PairTold
 pairTold refusal holds = record { refusal = refusal; yes = holds }
@@ -43,7 +41,7 @@ builtTold b refusal words directory work =
       work = work;
     }
 
-pub told-refusal : {number place : ℕ} (r : Refusal) → number ≡ numberOf r → place ≡ placeOf r → told number place ≡ toldRefusal r
+pub told-refusal : {number place : ℕ} (r : Refusal) → number ≡ numberOf r → place ≡ placeOf r → refused number place ≡ toldRefusal r
 told-refusal r e f = rw (e, f)
 
 pub told-list : {r : NumberTold} {a : NumberAnswer} {l : List ℕ} {o : ListOutcome} → r ≡ toldNumber a → listed a l ≡ o → listTold r l ≡ toldList o

@@ -1,22 +1,19 @@
 // The calls of the box for C: each hands its arguments on and tells the answer as plain numbers. include/ngolishepa.h declares them.
 use rules::Head;
 use rules::NumberAnswer;
+use rules::NumberTold;
 use rules::PairAnswer;
+use rules::PairTold;
 use rules::Refusal;
+use rules::Told;
 use rules::Verdict;
 ghost use mathlib.Core.Path.{_≡_};
 ghost use Rattle.rules.specs.Index.{index};
 ghost use Rattle.rules.specs.Listing.{listing, listingVerdict};
 ghost use Rattle.rules.specs.Questions.{kind10, kind11, kind12, kind13, kind14, kind15, kind16, kind17, kind18};
 ghost use Rattle.rules.specs.Outcomes.{buildOutcome, wholeVerdict, pairOutcome, unitOutcome, boundOutcome, listOutcome};
-ghost use Rattle.ngolishepa.specs.Told.{toldRefusal, toldVerdict, toldPair, toldNumber, toldPart, toldBuild, toldList, ListTold, BuildTold};
-
-// A refusal by its number and its place; both 0 where there is none.
-#[repr(C)]
-pub struct Told {
-    pub number: u32,
-    pub place: u32,
-}
+ghost use Rattle.rules.specs.Told.{toldRefusal, toldVerdict, toldPair, toldNumber, toldList, ListTold};
+ghost use Rattle.ngolishepa.specs.Told.{toldPart, toldBuild, BuildTold};
 
 // What a build answers.
 #[repr(C)]
@@ -24,20 +21,6 @@ pub struct BuiltTold {
     pub head: Head,
     pub bits: u32,
     pub refusal: Told,
-}
-
-// Yes, no (yes is false) or refused.
-#[repr(C)]
-pub struct PairTold {
-    pub refusal: Told,
-    pub yes: bool,
-}
-
-// A count, a stage or a unit; 0 where it is refused.
-#[repr(C)]
-pub struct NumberTold {
-    pub refusal: Told,
-    pub number: u32,
 }
 
 // Where the part of a need list stands; both 0 where it is refused.

@@ -18,19 +18,19 @@ use Rattle.rules.proofs.Places.{one-place-same, zero-place-same}
 use Rattle.rules.proofs.Layouts.{offset-within, room-holds, words-hold, vector-other}
 use Rattle.rules.proofs.Wholes.{Whole, unit-track}
 
--- words that agree below word m
-abbrev pub Agree : List ℕ → List ℕ → ℕ → Type 0
-Agree a b m = (j : ℕ) → j < m → getD a j 0 ≡ getD b j 0
+-- the entries below m are the same
+abbrev pub SameBelow : List ℕ → List ℕ → ℕ → Type 0
+SameBelow a b m = (j : ℕ) → j < m → getD a j 0 ≡ getD b j 0
 
-pub bit-agree : (a b : List ℕ) (m x : ℕ) → Agree a b m → x < 64 * m → bit a x ≡ bit b x
+pub bit-agree : (a b : List ℕ) (m x : ℕ) → SameBelow a b m → x < 64 * m → bit a x ≡ bit b x
 unfolding bit
 bit-agree a b m x h l = ap (λ (w : ℕ). digit w (x % 64)) (h (x / 64) (omega arith))
 
-pub ones-agree : (a b : List ℕ) (m j : ℕ) → Agree a b m → j ≤ m → onesBefore a j ≡ onesBefore b j
+pub ones-agree : (a b : List ℕ) (m j : ℕ) → SameBelow a b m → j ≤ m → onesBefore a j ≡ onesBefore b j
 unfolding onesBefore
 ones-agree a b m j h l = sum-same _ _ j (λ i q. ap ones (h i (omega arith)))
 
-module _ (s : ℕ → ℕ) (k : ℕ) (a b : List ℕ) (h : Agree a b (wordCount s k)) (p q : ℕ) (row : p < k) (column : q < k) where
+module _ (s : ℕ → ℕ) (k : ℕ) (a b : List ℕ) (h : SameBelow a b (wordCount s k)) (p q : ℕ) (row : p < k) (column : q < k) where
   pub vector-agree : (y : ℕ) → y < vectorBits s p q → vectorOf s k a p q y ≡ vectorOf s k b p q y
   unfolding vectorOf
   vector-agree y l =
@@ -48,8 +48,8 @@ module _ (s : ℕ → ℕ) (k : ℕ) (a b : List ℕ) (h : Agree a b (wordCount 
 -- an index whose areas are replaced by others that reach and agree
 module _ (x : Index) (ws ds : List ℕ)
     (words-reach : wordCount (sizes x) (x .head .k) ≤ length ws) (directory-reach : wordCount (sizes x) (x .head .k) ≤ length ds)
-    (words-agree : Agree (x .words) ws (wordCount (sizes x) (x .head .k)))
-    (directory-agrees : Agree (x .directory) ds (wordCount (sizes x) (x .head .k)))
+    (words-agree : SameBelow (x .words) ws (wordCount (sizes x) (x .head .k)))
+    (directory-agrees : SameBelow (x .directory) ds (wordCount (sizes x) (x .head .k)))
     (good : Whole x) where
   pub whole-agree : Whole (index (x .head) (x .tracks) ws ds)
   whole-agree = record {
@@ -70,12 +70,18 @@ module _ (x : Index) (ws ds : List ℕ)
         ∙ good .ones p q a b n;
   }
 
-  -- so each question answers the same
+  -- so low and high are the same, and each question answers the same
+  pub low-in-agree : (u q : ℕ) → 1 ≤ u → u ≤ x .head .n → q < x .head .k → lowIn (index (x .head) (x .tracks) ws ds) u q ≡ lowIn x u q
+  low-in-agree u q u1 un column =
+      sym (low-agree (sizes x) (x .head .k) (x .words) ws words-agree (track (x .tracks) u) q (unit-track x good u u1 un) column (position (x .tracks) u))
+
+  pub high-in-agree : (u q : ℕ) → 1 ≤ u → u ≤ x .head .n → q < x .head .k → highIn (index (x .head) (x .tracks) ws ds) u q ≡ highIn x u q
+  high-in-agree u q u1 un row =
+      sym (high-agree (sizes x) (x .head .k) (x .words) ws words-agree q (track (x .tracks) u) row (unit-track x good u u1 un) (position (x .tracks) u))
+
   pub kind10-agree : (u v : ℕ) → 1 ≤ u → u ≤ x .head .n → 1 ≤ v → v ≤ x .head .n → kind10 (index (x .head) (x .tracks) ws ds) u v ≡ kind10 x u v
   unfolding kind10By
-  kind10-agree u v u1 un v1 vn =
-      rw (sym (low-agree (sizes x) (x .head .k) (x .words) ws words-agree (track (x .tracks) u) (track (x .tracks) v)
-      (unit-track x good u u1 un) (unit-track x good v v1 vn) (position (x .tracks) u)))
+  kind10-agree u v u1 un v1 vn = rw (low-in-agree u (track (x .tracks) v) u1 un (unit-track x good v v1 vn))
 
   pub kind11-agree : (u v : ℕ) → 1 ≤ u → u ≤ x .head .n → 1 ≤ v → v ≤ x .head .n → kind11 (index (x .head) (x .tracks) ws ds) u v ≡ kind11 x u v
   unfolding kind11By
@@ -83,11 +89,7 @@ module _ (x : Index) (ws ds : List ℕ)
     where
       same : (p : ℕ) → p < x .head .k
           → ltb (lowIn (index (x .head) (x .tracks) ws ds) u p) (highIn (index (x .head) (x .tracks) ws ds) v p) ≡ ltb (lowIn x u p) (highIn x v p)
-      same p l =
-          rw (
-            sym (low-agree (sizes x) (x .head .k) (x .words) ws words-agree (track (x .tracks) u) p (unit-track x good u u1 un) l (position (x .tracks) u)),
-            sym (high-agree (sizes x) (x .head .k) (x .words) ws words-agree p (track (x .tracks) v) l (unit-track x good v v1 vn) (position (x .tracks) v)),
-          )
+      same p l = rw (low-in-agree u p u1 un l, high-in-agree v p v1 vn l)
 
       between : every (λ p. ltb (lowIn (index (x .head) (x .tracks) ws ds) u p) (highIn (index (x .head) (x .tracks) ws ds) v p)) (x .head .k)
           ≡ every (λ p. ltb (lowIn x u p) (highIn x v p)) (x .head .k)

@@ -17,8 +17,10 @@ pub mod Builts
 pub mod Areas
 pub mod Builds
 pub mod Redrawn
-pub mod Demands
+pub mod Stages
+pub mod Nearest
+pub mod Tellings
 pub mod Cases
 pub mod Refusing
-pub mod Stages
+pub mod Demands
 pub mod Bench

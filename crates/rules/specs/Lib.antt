@@ -10,3 +10,4 @@ pub mod Bits
 pub mod Index
 pub mod Questions
 pub mod Outcomes
+pub mod Told

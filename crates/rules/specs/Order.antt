@@ -1,6 +1,6 @@
 -- What a listing says: needs, direct steps, the unit before, soundness, low, high and stage.
--- `Needs` and `DirectStep` are the words of document 01; `needs` and `step` are the same as tests that compute.
-use Prim.Native.Nat.{ℕ, zero, suc, _+_, _-_, _<_}
+-- `Needs`, `DirectStep` and `Stage` are the words of document 01; `needs`, `step` and `stage` are the same as they compute.
+use Prim.Native.Nat.{ℕ, zero, suc, _+_, _-_, _≤_, _<_}
 use mathlib.Core.Path.{_≡_}
 use mathlib.Core.Bool.{Bool, true, false, cond, not, _&&_, _||_}
 use mathlib.Core.List.{List}
@@ -75,3 +75,14 @@ stageIn isStep (suc turns) u = above (stageIn isStep turns) (highestStep isStep 
 
 unfoldable pub stage : (ℕ → ℕ → Bool) → ℕ → ℕ
 stage isStep u = stageIn isStep u u
+
+-- v is the highest-numbered direct step of u with a smaller number
+pub record HighestStep (Step : ℕ → ℕ → Type 0) (u v : ℕ) : Type 0 where
+  pub direct : Step u v
+  pub smaller : v < u
+  pub none-higher : (w : ℕ) → w < u → Step u w → w ≤ v
+
+-- the stage of a unit is 1 if it has no direct step with a smaller number; otherwise one more than the stage of its highest-numbered such step
+pub data Stage (Step : ℕ → ℕ → Type 0) : ℕ → ℕ → Type 0 where
+  lowest : {u : ℕ} → ((v : ℕ) → v < u → Step u v → ⊥) → Stage Step u 1
+  higher : {u v s : ℕ} → HighestStep Step u v → Stage Step v s → Stage Step u (s + 1)

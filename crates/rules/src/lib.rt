@@ -140,3 +140,26 @@ pub enum NumberAnswer {
     Number(u16),
     Refused(Refusal),
 }
+
+// ---- answers in document 01's numbers, as C reads them
+
+// A refusal by its number and its place; both 0 where there is none.
+#[repr(C)]
+pub struct Told {
+    pub number: u32,
+    pub place: u32,
+}
+
+// Yes, no (yes is false) or refused.
+#[repr(C)]
+pub struct PairTold {
+    pub refusal: Told,
+    pub yes: bool,
+}
+
+// A count, a stage or a unit; 0 where it is refused.
+#[repr(C)]
+pub struct NumberTold {
+    pub refusal: Told,
+    pub number: u32,
+}

@@ -2,7 +2,7 @@
 -- step: were w between them, a path from the unit to w would begin with a listed need as great as w. Assumes nothing.
 use Prim.Native.Nat.{ℕ, zero, suc, _+_, _-_, _≤_, _<_, max}
 use mathlib.Core.Path.{_≡_, refl, sym, ap, _∙_}
-use mathlib.Core.Bool.{Bool, true, false, cond}
+use mathlib.Core.Bool.{true, false, cond}
 use mathlib.Core.List.{List}
 use mathlib.Core.Logic.{_⊎_, inl, inr}
 use native.Mathlib.Omega.{arith}
@@ -16,47 +16,16 @@ use Rattle.rules.specs.declared.Verdict.the-variants.{Fine}
 use Rattle.rules.specs.Ranges.{greatest, table}
 use Rattle.rules.specs.Paths.{one, more}
 use Rattle.rules.specs.Listing.{Listing, Listed, pairs, upper, lower}
-use Rattle.rules.specs.Order.{Needs, DirectStep, step, above, highestStep, stageIn, stage, soundVerdict}
+use Rattle.rules.specs.Order.{Needs, DirectStep, step, above, highestStep, stage, soundVerdict}
 use Rattle.rules.specs.Index.{builtIndex}
 use Rattle.rules.specs.Questions.{kind11, kind16}
-use Rattle.rules.proofs.Ranges.{last-or-before, true-or-false, greatest-is, greatest-zero, greatest-same, length-table, getD-table, table-is, table-same}
+use Rattle.rules.proofs.Ranges.{last-or-before, true-or-false, greatest-is, greatest-zero, length-table, getD-table, table-is, table-same}
 use Rattle.rules.proofs.Paths.{path-down}
 use Rattle.rules.proofs.Needs.{Pairs, Below, ascends-far, listed-down, steps-listed, step-direct, direct-step}
 use Rattle.rules.proofs.Accepted.{Accepted}
 use Rattle.rules.proofs.Builts.{kind11-built}
-use Rattle.rules.proofs.Stages.{above-unit, highest-most, stage-next}
+use Rattle.rules.proofs.Stages.{above-unit, above-same, highest-most, stage-next, stage-agrees}
 use Rattle.stages.specs.Stages.{stageTable}
-
--- ---- two tests of a direct step
-
-above-same : (f g : ℕ → ℕ) (v : ℕ) → (1 ≤ v → f v ≡ g v) → above f v ≡ above g v
-above-same f g zero e = refl
-above-same f g (suc v) e = ap suc (e (omega arith))
-
-none-either : (b : Bool) → cond b zero zero ≡ zero
-none-either true = refl
-none-either false = refl
-
--- tests that agree on the units 1 to n give them the same stages
-module _ (n : ℕ) (r s : ℕ → ℕ → Bool) (agree : (u v : ℕ) → 1 ≤ u → u ≤ n → 1 ≤ v → v ≤ n → r u v ≡ s u v) where
-  highest-agrees : (u : ℕ) → u ≤ n → highestStep r u ≡ highestStep s u
-  unfolding highestStep
-  highest-agrees u h = greatest-same _ _ u at-unit
-    where
-      at-unit : (v : ℕ) → v < u → cond (r u v) v 0 ≡ cond (s u v) v 0
-      at-unit zero l = none-either (r u zero) ∙ sym (none-either (s u zero))
-      at-unit (suc v) l = rw (agree u (suc v) (omega arith) h (omega arith) (omega arith))
-
-  in-agrees : (turns u : ℕ) → u ≤ n → stageIn r turns u ≡ stageIn s turns u
-  unfolding stageIn
-  in-agrees zero u h = refl
-  in-agrees (suc turns) u h =
-      rw (highest-agrees u h)
-      (above-same (stageIn r turns) (stageIn s turns) (highestStep s u) (λ p. in-agrees turns (highestStep s u) (omega (arith, highest-most s u))))
-
-  stage-agrees : (u : ℕ) → u ≤ n → stage r u ≡ stage s u
-  unfolding stage
-  stage-agrees u h = in-agrees u u h
 
 -- the stages of a built index are those of its listing
 stage-built : (c : Listing) → Accepted c → soundVerdict c ≡ Fine → (u : ℕ) → u ≤ c .n → kind16 (builtIndex c) u ≡ stage (step (c .needs)) u

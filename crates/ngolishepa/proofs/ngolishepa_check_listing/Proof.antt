@@ -1,6 +1,6 @@
 -- `ngolishepa::ngolishepa_check_listing`: the verdict of the listing, told. Assumes nothing.
 use mathlib.Core.Path.{_≡_, sym, ap, _∙_}
-use Rattle.ngolishepa.specs.Told.{toldVerdict}
+use Rattle.rules.specs.Told.{toldVerdict}
 use borrow.Author.Needs.{needs}
 use Rattle.ngolishepa.proofs.ngolishepa_check_listing.Statement.{statement}
 use Rattle.ngolishepa.proofs.ngolishepa_check_listing.Tie as tie

@@ -1,6 +1,6 @@
 -- `ngolishepa::ngolishepa_is_step`: the answer, told. Assumes nothing.
 use mathlib.Core.Path.{_≡_, sym, ap, _∙_}
-use Rattle.ngolishepa.specs.Told.{toldPair}
+use Rattle.rules.specs.Told.{toldPair}
 use borrow.Author.Needs.{needs}
 use Rattle.ngolishepa.proofs.ngolishepa_is_step.Statement.{statement}
 use Rattle.ngolishepa.proofs.ngolishepa_is_step.Tie as tie

@@ -1,6 +1,6 @@
 -- `ngolishepa::ngolishepa_unit_high`: the answer, told. Assumes nothing.
 use mathlib.Core.Path.{_≡_, sym, ap, _∙_}
-use Rattle.ngolishepa.specs.Told.{toldNumber}
+use Rattle.rules.specs.Told.{toldNumber}
 use borrow.Author.Needs.{needs}
 use Rattle.ngolishepa.proofs.ngolishepa_unit_high.Statement.{statement}
 use Rattle.ngolishepa.proofs.ngolishepa_unit_high.Tie as tie

@@ -1,6 +1,6 @@
 -- `ngolishepa::tell_number`: case by case. Assumes nothing.
 use mathlib.Core.Path.{_≡_, sym, ap, _∙_}
-use Rattle.ngolishepa.specs.Told.{toldNumber}
+use Rattle.rules.specs.Told.{toldNumber}
 use Rattle.ngolishepa.proofs.Telling.{numberTold}
 use borrow.Author.Needs.{needs}
 use Rattle.ngolishepa.proofs.tell_number.Statement.{statement}

@@ -1,7 +1,7 @@
 -- `ngolishepa::tell_pair`: case by case. Assumes nothing.
 use mathlib.Core.Path.{_≡_, sym, ap, _∙_}
 use mathlib.Core.Bool.{true, false}
-use Rattle.ngolishepa.specs.Told.{toldPair}
+use Rattle.rules.specs.Told.{toldPair}
 use Rattle.ngolishepa.proofs.Telling.{pairTold}
 use borrow.Author.Needs.{needs}
 use Rattle.ngolishepa.proofs.tell_pair.Statement.{statement}

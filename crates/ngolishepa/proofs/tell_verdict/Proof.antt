@@ -1,6 +1,6 @@
 -- `ngolishepa::tell_verdict`: case by case. Assumes nothing.
 use mathlib.Core.Path.{_≡_, sym, ap, _∙_}
-use Rattle.ngolishepa.specs.Told.{toldVerdict}
+use Rattle.rules.specs.Told.{toldVerdict}
 use borrow.Author.Needs.{needs}
 use Rattle.ngolishepa.proofs.tell_verdict.Statement.{statement}
 use Rattle.ngolishepa.proofs.tell_verdict.Tie as tie
