@@ -18,7 +18,8 @@ use Rattle.rules.specs.Order.{low}
 use Rattle.rules.specs.Layout.{offset, roomBits, wordCount}
 use Rattle.rules.specs.Bits.{digit, bit, onesBefore}
 use Rattle.rules.specs.Index.{oneAt, builtBit, builtCount, builtWords, builtDirectory, builtWork, lensOf}
-use Rattle.rules.proofs.Ranges.{bit1-le, some-bit, some-same, length-table, getD-table, getD-rows, over-whole}
+use Rattle.rules.proofs.Ranges.{bit1-le, some-bit, some-same, length-table, getD-table, getD-rows}
+use Rattle.rules.proofs.Overs.{over-whole}
 use Rattle.rules.proofs.Bits.{Words, bit-le, words-same}
 use Rattle.rules.proofs.Layouts.{offset-same, offset-within, vector-other, room-holds, words-hold, words-most, offset-last}
 use Rattle.rules.proofs.Layouts as layouts

@@ -1,5 +1,6 @@
 -- The laws about the definitions of specs/, in the order of a textbook.
 pub mod Ranges
+pub mod Overs
 pub mod Verdicts
 pub mod Checks
 pub mod Paths

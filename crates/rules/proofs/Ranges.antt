@@ -3,19 +3,19 @@
 use Prim.Native.Nat.{ℕ, zero, suc, _+_, _-_, _*_, _/_, _%_, _≤_, _<_, max, min, zero-le}
 use mathlib.Core.Path.{_≡_, refl, sym, ap, _∙_, subst}
 use mathlib.Core.Bool.{Bool, true, false, cond, not, _&&_, _||_, or-true}
-use mathlib.Core.List.{List, [], _∷_, _++_, append-nil, append-assoc}
+use mathlib.Core.List.{List, [], _∷_, _++_, append-nil}
 use mathlib.Core.Logic.{_⊎_, inl, inr}
 use native.Mathlib.Omega.{arith}
 use native.Mathlib.Numerals.{add-one}
 use native.Mathlib.Nat.{le-refl, le-antisymm, add-suc, add-zero, suc-mul, div-add-mod', mod-lt, div-lt-iff-lt-mul}
 use native.Mathlib.Decide.{decLt, decLe, ℕ-discrete}
-use lib.ListN.{length, getD, set, drop, take, length-append, length-drop, replicate, length-set, length-replicate, getD-replicate}
-use lib.Seq.{getD-append-add, getD-append-seam, getD-at, getD-drop, drop-cons, set-append-seam, ext-getD, drop-length, getD-set-same, getD-set-other}
+use lib.ListN.{length, getD, set, length-append, replicate, length-set, length-replicate, getD-replicate}
+use lib.Seq.{getD-append-add, getD-append-seam, getD-at, ext-getD, getD-set-same, getD-set-other}
 use lib.Arith.{digits-lt}
 use lib.ListN.{List·getD-append}
 use lib.Dec.{leb, ltb}
 use borrow.Author.Tests.{lt-ltb, le-ltb, le-leb}
-use Rattle.rules.specs.Ranges.{sum, bit1, count, greatest, smallest, first, some, every, keep, table, rows, over}
+use Rattle.rules.specs.Ranges.{sum, bit1, count, greatest, smallest, first, some, every, keep, table, rows}
 use Rattle.rules.specs.Questions.{unitsWhere}
 
 -- ---- numbers below a bound
@@ -549,36 +549,6 @@ rows-is f k m l e h = ext-getD 0 l (rows f m k) (e ∙ sym (length-rows f k m)) 
             rw (sym d) (h (x / k) (x % k) i r ∙ sym (getD-rows f k m (x / k) (x % k) i r))
         go (no z) = absurd (let k0 : k ≡ 0 = omega arith in let q′ : x < m * 0 = rw (e, k0) at q in omega (arith, native.Mathlib.Nat.mul-zero m))
 
--- ---- an area whose first entries are written
-
-pub length-over : (area xs : List ℕ) → length xs ≤ length area → length (over area xs) ≡ length area
-unfolding over
-length-over area xs h = rw (length-append, length-drop) (omega arith)
-
-pub getD-over : (area xs : List ℕ) (i : ℕ) → i < length xs → getD (over area xs) i 0 ≡ getD xs i 0
-unfolding over
-getD-over area xs i h = List·getD-append xs (drop (length xs) area) 0 i h
-
-pub getD-past : (area xs : List ℕ) (i : ℕ) → length xs ≤ i → getD (over area xs) i 0 ≡ getD area i 0
-unfolding over
-getD-past area xs i h =
-    let e : length xs + (i - length xs) ≡ i = omega arith in
-    rw (sym e) (getD-append-add xs (drop (length xs) area) (i - length xs) 0 ∙ getD-drop (length xs) area (i - length xs) 0)
-
--- an area that has these entries first and is as it was past them
-pub over-is : (area xs l : List ℕ) → length xs ≤ length area → length l ≡ length area
-    → ((i : ℕ) → i < length xs → getD l i 0 ≡ getD xs i 0)
-    → ((i : ℕ) → length xs ≤ i → i < length area → getD l i 0 ≡ getD area i 0)
-    → l ≡ over area xs
-over-is area xs l h e written kept = ext-getD 0 l (over area xs) (e ∙ sym (length-over area xs h)) at-each
-  where
-    at-each : (i : ℕ) → i < length l → getD l i 0 ≡ getD (over area xs) i 0
-    at-each i q = go (decLt i (length xs))
-      where
-        go : Dec (i < length xs) → getD l i 0 ≡ getD (over area xs) i 0
-        go (yes w) = written i w ∙ sym (getD-over area xs i w)
-        go (no n) = kept i (omega arith) (omega arith) ∙ sym (getD-past area xs i (omega arith))
-
 -- ---- what follows brings nothing
 
 pub greatest-past : (f : ℕ → ℕ) (a m : ℕ) → a ≤ m → ((x : ℕ) → a ≤ x → x < m → f x ≡ 0) → greatest f m ≡ greatest f a
@@ -587,16 +557,6 @@ greatest-past f a m h z = le-antisymm (greatest-least f m (greatest f a) (λ x l
     under : (x : ℕ) → x < m → Dec (x < a) → f x ≤ greatest f a
     under x l (yes b) = greatest-bound f a x b
     under x l (no n) = omega (arith, z x (omega arith) l)
-
-pub over-none : (area : List ℕ) → over area [] ≡ area
-unfolding over
-over-none area = refl
-
--- one entry more, stored right past the written ones
-pub over-next : (area xs : List ℕ) (x : ℕ) → length xs < length area → set (over area xs) (length xs) x ≡ over area (xs ++ (x ∷ []))
-unfolding over
-over-next area xs x h =
-    rw (drop-cons area (length xs) 0, set-append-seam, length-append, append-assoc, add-one)
 
 -- ---- a sum of which one term changes
 
@@ -689,14 +649,3 @@ some-bit p m = rw add-one (either (some p m) (p m))
     either true false = refl
     either false true = refl
     either false false = refl
-
--- ---- an area that is written whole
-
-pub over-whole : (area xs : List ℕ) → length area ≡ length xs → over area xs ≡ xs
-unfolding over
-over-whole area xs h = rw (sym h, drop-length) (append-nil xs)
-
--- a part lent from the front, which comes back as xs, before what was not lent
-pub over-part : (area part xs : List ℕ) (m : ℕ) → part ≡ xs → length xs ≡ m → part ++ drop m area ≡ over area xs
-unfolding over
-over-part area part xs m e h = rw (e, sym h)
