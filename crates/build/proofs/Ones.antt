@@ -13,7 +13,7 @@ use lib.Pow.{pow-pos}
 use lib.Dec.{eqb}
 use borrow.Author.Tests.{eq-eqb, ne-eqb}
 use Rattle.rules.specs.Ranges.{bit1, some, table, over}
-use Rattle.rules.specs.Listing.{Listing, track, size, position}
+use Rattle.rules.specs.Listing.{Listing, track, size}
 use Rattle.rules.specs.Order.{low}
 use Rattle.rules.specs.Layout.{offset, roomBits, wordCount}
 use Rattle.rules.specs.Bits.{digit, bit, onesBefore}

@@ -1,4 +1,4 @@
--- Where each vector stands: a vector starts where the room before it ends, so no two rooms meet and each bit has one home; and the bits and words in all.
+-- Where each vector stands: a vector starts where the room before it ends, so no two rooms meet and no bit stands in two; and the bits and words in all.
 -- All of it is read off the sums of the layout. Only room-holds, room-is, room-meant, room-all and room-same know what a room is.
 -- Assumes nothing.
 use Prim.Native.Nat.{ℕ, zero, suc, _+_, _-_, _*_, _≤_, _<_}
@@ -12,27 +12,9 @@ use lib.Dec.{eqb, ltb}
 use borrow.Author.Tests.{lt-ltb, le-ltb, eq-eqb, ne-eqb}
 use Rattle.rules.specs.Ranges.{sum, bit1}
 use Rattle.rules.specs.Layout.{vectorBits, vectorRoom, offset, roomBits, wordCount, meantBits}
-use Rattle.rules.proofs.Ranges.{sum-none, sum-next, sum-suc, sum-same, sum-le, sum-term, sum-plus, sum-const}
+use Rattle.rules.proofs.Ranges.{sum-none, sum-next, sum-same, sum-term, sum-plus, sum-const}
 
 -- ---- sums
-
--- the term of a sum in which x lies
-pub record SumHome (f : ℕ → ℕ) (m x : ℕ) : Type 0 where
-  pub term : ℕ
-  pub within : term < m
-  pub from : sum f term ≤ x
-  pub below : x < sum f term + f term
-
-pub sum-home : (f : ℕ → ℕ) (m x : ℕ) → x < sum f m → SumHome f m x
-sum-home f zero x h = absurd (omega (arith, sum-none f))
-sum-home f (suc m) x h = go (sum-home f m x) (decLt x (sum f m))
-  where
-    go : (x < sum f m → SumHome f m x) → Dec (x < sum f m) → SumHome f (suc m) x
-    go before (yes l) =
-        let r = before l in
-        record { term = r .term; within = omega arith; from = r .from; below = r .below }
-    go before (no n) =
-        record { term = m; within = omega arith; from = omega arith; below = omega (arith, sum-suc f m) }
 
 pub sum-times : (a : ℕ) (f : ℕ → ℕ) (m : ℕ) → sum (λ i. a * f i) m ≡ a * sum f m
 unfolding sum
@@ -110,23 +92,6 @@ pub record BitHome (s : ℕ → ℕ) (k x : ℕ) : Type 0 where
   pub below : x < offset s k p q + vectorRoom s p q
 
 module _ (s : ℕ → ℕ) (k x : ℕ) where
-  pub bit-home : x < roomBits s k → BitHome s k x
-  unfolding roomBits offset
-  bit-home h = in-row (sum-home (rowRoom s k) k x h)
-    where
-      in-row : SumHome (rowRoom s k) k x → BitHome s k x
-      in-row r = in-column (sum-home (vectorRoom s (r .term)) k (x - sum (rowRoom s k) (r .term)) (omega arith))
-        where
-          in-column : SumHome (vectorRoom s (r .term)) k (x - sum (rowRoom s k) (r .term)) → BitHome s k x
-          in-column c = record {
-            p = r .term;
-            q = c .term;
-            row = r .within;
-            column = c .within;
-            from = omega arith;
-            below = omega arith;
-          }
-
   -- and no other vector has it
   pub bit-home-one : (a b : BitHome s k x) → (a .p ≡ b .p) × (a .q ≡ b .q)
   bit-home-one a b = go (decLt (a .p) (b .p)) (decLt (b .p) (a .p)) (decLt (a .q) (b .q)) (decLt (b .q) (a .q))
@@ -160,10 +125,6 @@ module _ (s : ℕ → ℕ) where
   pub room-is : (p q : ℕ) → vectorRoom s p q ≡ vectorBits s p q
   unfolding vectorRoom
   room-is p q = refl
-
-  pub meant-room : (k : ℕ) → meantBits s k ≤ roomBits s k
-  unfolding meantBits roomBits
-  meant-room k = sum-le _ _ k (λ p l. sum-le _ _ k (λ q h. room-holds p q))
 
   pub room-meant : (k : ℕ) → roomBits s k ≡ meantBits s k
   unfolding meantBits roomBits vectorRoom
@@ -213,10 +174,6 @@ module _ (s : ℕ → ℕ) where
   unfolding wordCount
   words-hold k = omega arith
 
-  pub words-tight : (k : ℕ) → 64 * wordCount s k < roomBits s k + 64
-  unfolding wordCount
-  words-tight k = omega arith
-
   pub words-most : (k : ℕ) → sum s k ≤ 1024 → k ≤ 32 → wordCount s k ≤ 992
   unfolding wordCount
   words-most k most few =
@@ -250,10 +207,6 @@ module _ (s t : ℕ → ℕ) (k : ℕ) (same : (q : ℕ) → q < k → s q ≡ t
   pub words-same : wordCount s k ≡ wordCount t k
   unfolding wordCount
   words-same = rw room-bits-same
-
-  pub meant-same : meantBits s k ≡ meantBits t k
-  unfolding meantBits
-  meant-same = sum-same _ _ k (λ p l. sum-same _ _ k (λ q h. vector-same p q l h))
 
 -- ---- the ones before a vector
 

@@ -6,7 +6,7 @@ use mathlib.Core.List.{List, [], _∷_, _++_, append-nil, append-assoc}
 use native.Mathlib.Omega.{arith}
 use native.Mathlib.Numerals.{add-one}
 use lib.ListN.{length, getD, set, take, drop, length-append, length-drop, drop-of-length-le, List·getD-append}
-use lib.Seq.{getD-append-add, getD-drop, drop-cons, drop-drop, drop-append-add, drop-length, set-at, take-all, take-at, drop-at}
+use lib.Seq.{drop-cons, drop-drop, drop-append-add, drop-length, set-at, take-all, take-at, drop-at}
 use borrow.Rule.Slice.PartMut.{midOf, putMid}
 use Rattle.rules.specs.Ranges.{table, over}
 use Rattle.rules.proofs.Ranges.{length-table, table-next}
@@ -21,13 +21,6 @@ length-over area xs h = rw (length-append, length-drop) (omega arith)
 pub getD-over : (area xs : List ℕ) (i : ℕ) → i < length xs → getD (over area xs) i 0 ≡ getD xs i 0
 unfolding over
 getD-over area xs i h = List·getD-append xs (drop (length xs) area) 0 i h
-
--- what is kept
-pub getD-past : (area xs : List ℕ) (i : ℕ) → length xs ≤ i → getD (over area xs) i 0 ≡ getD area i 0
-unfolding over
-getD-past area xs i h =
-    let e : length xs + (i - length xs) ≡ i = omega arith in
-    rw (sym e) (getD-append-add xs (drop (length xs) area) (i - length xs) 0 ∙ getD-drop (length xs) area (i - length xs) 0)
 
 -- ---- nothing written, everything written, more written
 

@@ -21,7 +21,7 @@ use Rattle.rules.specs.Questions.{kind10By, kind11By, kind10, kind11}
 use Rattle.rules.proofs.Ranges.{sum-none, sum-suc, sum-same, every-all, every-one, every-same}
 use Rattle.rules.proofs.Verdicts.{and-both, both-and, and-no, same-test, within-is, is-within}
 use Rattle.rules.proofs.Bits.{bit-le, rank-le, rank-add}
-use Rattle.rules.proofs.Places.{one-place-low, zero-place-low, one-place-rises, places-cross, places-cross-back, places-by-rank, places-by-rank-back}
+use Rattle.rules.proofs.Places.{one-place-low, zero-place-low, places-cross, places-cross-back, places-by-rank, places-by-rank-back}
 use Rattle.rules.proofs.Layouts.{offset-start, offset-next, offset-row, vector-own, vector-other, room-is, onesIn, ones-to}
 use Rattle.rules.proofs.Tracks.{position-pos, position-size, sizes-all, UnitAt, unit-found}
 
@@ -256,17 +256,6 @@ module _ (x : Index) (good : Whole x) (p q : ℕ) (row : p < x .head .k) (column
           let m : q ≡ p → ⊥ = λ e. n (sym e) in
           rw (high-at-other (sizes x) (x .head .k) (x .words) q p i n)
           (omega (arith, good .ones q p column row m, zero-place-low (vector x q p) (vector-le (sizes x) (x .head .k) (x .words) q p) _ i from (in-zeros x good q p column row m to) .1))
-
-  -- low rises along a track
-  pub low-at-rises : (i i′ : ℕ) → 1 ≤ i → i < i′ → i′ ≤ sizes x p
-      → lowAt (sizes x) (x .head .k) (x .words) p i q ≤ lowAt (sizes x) (x .head .k) (x .words) p i′ q
-  low-at-rises i i′ from up to = go (ℕ-discrete p q)
-    where
-      go : Dec (p ≡ q) → lowAt (sizes x) (x .head .k) (x .words) p i q ≤ lowAt (sizes x) (x .head .k) (x .words) p i′ q
-      go (yes e) = rw (low-at-own (sizes x) (x .head .k) (x .words) p q i e, low-at-own (sizes x) (x .head .k) (x .words) p q i′ e) (omega arith)
-      go (no n) =
-          rw (low-at-other (sizes x) (x .head .k) (x .words) p q i n, low-at-other (sizes x) (x .head .k) (x .words) p q i′ n)
-          (one-place-rises (vector x p q) (vector-le (sizes x) (x .head .k) (x .words) p q) _ i i′ from up (in-ones x good p q row column n to))
 
   -- position i of p reaches down to j of q exactly when position j of q is reached from i of p on
   pub low-to-high : (i j : ℕ) → 1 ≤ i → i ≤ sizes x p → 1 ≤ j → j ≤ sizes x q
