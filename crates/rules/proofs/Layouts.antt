@@ -180,6 +180,27 @@ module _ (s : ℕ → ℕ) where
       let few′ : k - 1 ≤ 31 = omega arith in
       omega (arith, room-meant k, meant-bits k, mul-le-mul most few′)
 
+  pub room-most : (k : ℕ) → sum s k ≤ 1024 → k ≤ 32 → roomBits s k ≤ 63488
+  room-most k most few = omega (arith, words-hold k, words-most k most few)
+
+  pub length-most : (k q : ℕ) → sum s k ≤ 1024 → q < k → s q ≤ 1024
+  length-most k q most h = omega (arith, sum-term s k q h)
+
+-- ---- where a vector ends
+
+module _ (s : ℕ → ℕ) (k : ℕ) where
+  -- the next vector starts there
+  pub offset-end : (p q : ℕ) → offset s k p (q + 1) ≡ offset s k p q + vectorBits s p q
+  offset-end p q = omega (arith, offset-next s k p q, room-is s p q)
+
+  -- there is no vector p,p
+  pub offset-own : (p : ℕ) → offset s k p (p + 1) ≡ offset s k p p
+  offset-own p = omega (arith, offset-end p p, vector-own s p)
+
+  pub vector-within : (p q : ℕ) → p < k → q < k → (p ≡ q → ⊥) → offset s k p q + (s p + s q) ≤ 64 * wordCount s k
+  vector-within p q l h n =
+      omega (arith, vector-other s p q n, room-holds s p q, offset-within s k p q l h, words-hold s k)
+
 -- ---- the same lengths
 
 module _ (s t : ℕ → ℕ) (k : ℕ) (same : (q : ℕ) → q < k → s q ≡ t q) where
@@ -214,13 +235,9 @@ module _ (s t : ℕ → ℕ) (k : ℕ) (same : (q : ℕ) → q < k → s q ≡ t
 abbrev pub onesIn : (ℕ → ℕ) → ℕ → ℕ → ℕ
 onesIn s p q = cond (eqb p q) 0 (s p)
 
--- the ones of the vectors before p,q
-abbrev pub onesTo : (ℕ → ℕ) → ℕ → ℕ → ℕ → ℕ
-onesTo s k p q = sum (λ p′. sum (onesIn s p′) k) p + sum (onesIn s p) q
-
 module _ (s : ℕ → ℕ) where
   -- the vectors of track p before p,q have s p ones each
-  ones-row : (p q : ℕ) → sum (onesIn s p) q ≡ (q - bit1 (ltb p q)) * s p
+  pub ones-row : (p q : ℕ) → sum (onesIn s p) q ≡ (q - bit1 (ltb p q)) * s p
   ones-row p q = go (decLt p q) (sum-without (λ q. s p) p q)
     where
       go : Dec (p < q) → sum (onesIn s p) q + bit1 (ltb p q) * s p ≡ sum (λ q. s p) q → sum (onesIn s p) q ≡ (q - bit1 (ltb p q)) * s p
@@ -234,13 +251,3 @@ module _ (s : ℕ → ℕ) where
 
   pub ones-in-row : (k p : ℕ) → p < k → sum (onesIn s p) k ≡ (k - 1) * s p
   ones-in-row k p h = rw (ones-row p k, lt-ltb p k h)
-
-  -- each track before p has k - 1 vectors, and track p those before p,q
-  pub ones-to : (k p q : ℕ) → p ≤ k → onesTo s k p q ≡ (k - 1) * sum s p + (q - bit1 (ltb p q)) * s p
-  ones-to k p q l =
-      omega (
-        arith,
-        sum-same (λ p′. sum (onesIn s p′) k) (λ p′. (k - 1) * s p′) p (λ p′ h. ones-in-row k p′ (omega arith)),
-        ones-row p q,
-        sum-times (k - 1) s p,
-      )

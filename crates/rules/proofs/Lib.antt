@@ -13,6 +13,7 @@ pub mod Steps
 pub mod Accepted
 pub mod Tracks
 pub mod Bounds
+pub mod Vectors
 pub mod Wholes
 pub mod Builts
 pub mod Areas
