@@ -5,7 +5,6 @@ use mathlib.Core.Bool.{true}
 use mathlib.Core.List.{List}
 use native.Mathlib.Omega.{arith}
 use Rattle.rules.specs.Index.{Index, sizes, whole}
-use Rattle.rules.proofs.Layouts.{vector-other}
 use Rattle.rules.proofs.Wholes.{Whole, whole-is, units-sum}
 use Rattle.layout.specs.Starts.{rowStarts}
 use Rattle.bounds.specs.Known.{Known}
@@ -16,13 +15,17 @@ known-whole x row h e = go (whole-is x h)
   where
     go : Whole x → Known (sizes x) (x .head .k) (x .words) (x .directory) row
     go good = record {
-      some-track = good .k-in .0;
-      few-tracks = good .k-in .1;
-      few-units = omega (arith, units-sum x good, good .n-in .1);
-      used = good .used;
-      words-reach = good .words-reach;
-      directory-reach = good .directory-reach;
-      true-there = good .true-there;
-      ones = λ p q l h n. rw (vector-other (sizes x) p q n) (good .ones p q l h n);
+      lengths = record {
+        some-track = good .k-in .0;
+        few-tracks = good .k-in .1;
+        few-units = omega (arith, units-sum x good, good .n-in .1);
+        used = good .used;
+      };
+      directory-true = λ j l. record {
+        word = omega (arith, good .words-reach);
+        entry = omega (arith, good .directory-reach);
+        true-there = good .true-there j l;
+      };
+      ones = good .ones .each;
       starts = e;
     }

@@ -1,26 +1,22 @@
 -- What is known of the areas of a whole index, and how units at given positions, one in each track, reach others.
-use Prim.Native.Nat.{ℕ, _≤_, _<_}
+use Prim.Native.Nat.{ℕ, _+_, _≤_, _<_}
 use mathlib.Core.Path.{_≡_}
 use mathlib.Core.Bool.{Bool, not, _&&_}
 use mathlib.Core.List.{List}
-use lib.ListN.{length, getD}
+use lib.ListN.{getD}
 use lib.Dec.{leb}
 use Rattle.rules.specs.Ranges.{sum, every}
-use Rattle.rules.specs.Layout.{vectorBits, wordCount}
-use Rattle.rules.specs.Bits.{onesBefore}
+use Rattle.rules.specs.Layout.{wordCount}
 use Rattle.rules.specs.Index.{vectorOf, lowAt}
+use Rattle.words.specs.Words.{TrueTo}
+use Rattle.layout.specs.Lengths.{Lengths}
 use Rattle.layout.specs.Starts.{rowStarts}
 
 -- the areas of a whole index with k tracks of lengths s, and the table of where each track's vectors start
 pub record Known (s : ℕ → ℕ) (k : ℕ) (words directory row : List ℕ) : Type 0 where
-  pub some-track : 1 ≤ k
-  pub few-tracks : k ≤ 32
-  pub few-units : sum s k ≤ 1024
-  pub used : (q : ℕ) → q < k → 1 ≤ s q
-  pub words-reach : wordCount s k ≤ length words
-  pub directory-reach : wordCount s k ≤ length directory
-  pub true-there : (j : ℕ) → j < wordCount s k → getD directory j 0 ≡ onesBefore words j
-  pub ones : (p q : ℕ) → p < k → q < k → (p ≡ q → ⊥) → sum (vectorOf s k words p q) (vectorBits s p q) ≡ s p
+  pub lengths : Lengths s k
+  pub directory-true : TrueTo words directory (wordCount s k)
+  pub ones : (p q : ℕ) → p < k → q < k → (p ≡ q → ⊥) → sum (vectorOf s k words p q) (s p + s q) ≡ s p
   pub starts : row ≡ rowStarts s k
 
 -- position i of track p is a unit's

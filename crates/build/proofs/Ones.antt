@@ -13,12 +13,13 @@ use lib.Pow.{pow-pos}
 use lib.Dec.{eqb}
 use borrow.Author.Tests.{eq-eqb, ne-eqb}
 use Rattle.rules.specs.Ranges.{bit1, some, table, over}
-use Rattle.rules.specs.Listing.{Listing, track, size, position}
+use Rattle.rules.specs.Listing.{Listing, track, size}
 use Rattle.rules.specs.Order.{low}
 use Rattle.rules.specs.Layout.{offset, roomBits, wordCount}
 use Rattle.rules.specs.Bits.{digit, bit, onesBefore}
 use Rattle.rules.specs.Index.{oneAt, builtBit, builtCount, builtWords, builtDirectory, builtWork, lensOf}
-use Rattle.rules.proofs.Ranges.{bit1-le, some-bit, some-same, length-table, getD-table, getD-rows, over-whole}
+use Rattle.rules.proofs.Ranges.{bit1-le, some-bit, some-same, length-table, getD-table, getD-rows}
+use Rattle.rules.proofs.Overs.{over-whole}
 use Rattle.rules.proofs.Bits.{Words, bit-le, words-same}
 use Rattle.rules.proofs.Layouts.{offset-same, offset-within, vector-other, room-holds, words-hold, words-most, offset-last}
 use Rattle.rules.proofs.Layouts as layouts

@@ -10,7 +10,7 @@ use lib.Seq.{drop-cons, drop-at, getD-at, getD-take, length-take-le, set-at, tak
 use Rattle.rules.specs.Ranges.{over}
 use Rattle.frames.specs.Printed.{hexDigit, hexOf, unitsOf}
 use Rattle.frames.proofs.Lengths.{length-hex, length-units}
-use Rattle.frames.proofs.Overs.{over-put}
+use Rattle.rules.proofs.Overs.{over-next}
 
 -- ---- digits
 
@@ -70,4 +70,4 @@ module _ (us : List ℕ) (i : ℕ) (h : i < length us) where
 
   pub units-space : (area : List ℕ) → 5 * i < length area
       → set (over area (unitsOf (take i us))) (5 * i) 32 ≡ over area (unitsOf (take i us) ++ (32 ∷ []))
-  units-space area l = over-put area (unitsOf (take i us)) (5 * i) 32 length-before l
+  units-space area l = over-next area (unitsOf (take i us)) (5 * i) 32 length-before l

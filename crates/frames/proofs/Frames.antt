@@ -1,7 +1,7 @@
 -- Digits read one by one and as numbers, and what a line that is a frame looks like.
 -- Assumes nothing.
 use Prim.Native.Nat.{ℕ, zero, suc, _+_, _*_, _^_, _<_}
-use mathlib.Core.Path.{_≡_, sym, ap, _∙_}
+use mathlib.Core.Path.{_≡_, _∙_}
 use mathlib.Core.Bool.{Bool, true, false, cond, _&&_, and-true, and-assoc}
 use mathlib.Core.List.{List}
 use mathlib.Core.Logic.{_⊎_, inl, inr}
@@ -109,44 +109,34 @@ unfolding lineOf
 line-kind line n l d = rw (n, l, d)
 
 -- what a frame says of its line
-pub record Framed (line : List ℕ) (f : Frame) : Type 0 where
+pub record Framed (line : List ℕ) : Type 0 where
   pub long : length line ≡ 11
   pub feed : getD line 10 0 ≡ 10
   pub kind-digits : digits line 2 ≡ true
   pub number-digits : digits (drop 2 line) 8 ≡ true
-  pub kind-is : f .kind ≡ spelled line 2
-  pub a-is : f .a ≡ spelled (drop 2 line) 4
-  pub b-is : f .b ≡ spelled (drop 4 (drop 2 line)) 4
 
 -- the test of lineOf
 abbrev shaped : List ℕ → Bool
 shaped line = eqb (length line) 11 && eqb (getD line 10 0) 10 && digits line 2
 
-pub framed : (line : List ℕ) {f : Frame} → lineOf line ≡ IsFrame f → Framed line f
+pub framed : (line : List ℕ) {f : Frame} → lineOf line ≡ IsFrame f → Framed line
 unfolding lineOf numbersOf
 framed line {f} h = go (true-or-false (shaped line)) (true-or-false (digits (drop 2 line) 8))
   where
     no-frame : NoFrame ≡ IsFrame f → ⊥
     no-frame e = let z : _≡_ {A = ℕ} 0 1 = cc in omega arith
 
-    go : (shaped line ≡ true) ⊎ (shaped line ≡ false) → (digits (drop 2 line) 8 ≡ true) ⊎ (digits (drop 2 line) 8 ≡ false) → Framed line f
+    go : (shaped line ≡ true) ⊎ (shaped line ≡ false) → (digits (drop 2 line) 8 ≡ true) ⊎ (digits (drop 2 line) 8 ≡ false) → Framed line
     go (inr t) d = absurd (no-frame (rw t at h))
     go (inl t) (inr d) = absurd (no-frame (rw (t, d) at h))
     go (inl t) (inl d) =
         let kind = and-both (eqb (length line) 11 && eqb (getD line 10 0) 10) (digits line 2) t in
         let end = and-both (eqb (length line) 11) (eqb (getD line 10 0) 10) (kind .0) in
-        let h′ : IsFrame (record { kind = spelled line 2; a = spelled (drop 2 line) 4; b = spelled (drop 4 (drop 2 line)) 4 }) ≡ IsFrame f
-        = rw (t, d) at h
-        in
-        let e : _≡_ {A = Frame} (record { kind = spelled line 2; a = spelled (drop 2 line) 4; b = spelled (drop 4 (drop 2 line)) 4 }) f = cc in
         record {
           long = eqb-true (length line) 11 (end .0);
           feed = eqb-true (getD line 10 0) 10 (end .1);
           kind-digits = kind .1;
           number-digits = d;
-          kind-is = ap (λ (g : Frame). g .kind) (sym e);
-          a-is = ap (λ (g : Frame). g .a) (sym e);
-          b-is = ap (λ (g : Frame). g .b) (sym e);
         }
 
 module _ (line : List ℕ) {f : Frame} (h : lineOf line ≡ IsFrame f) where
@@ -159,9 +149,3 @@ module _ (line : List ℕ) {f : Frame} (h : lineOf line ≡ IsFrame f) where
   -- the line feed is the last byte, and the only one
   pub line-feed-last : (getD line 10 0 ≡ 10) × ((i : ℕ) → i < 10 → getD line i 0 ≡ 10 → ⊥)
   line-feed-last = (framed line h .feed, λ i l e. no-digit (rw e at (digits-one line 10 i line-digits l)))
-
-  pub frame-fits : (f .kind < 256) × (f .a < 65536) × (f .b < 65536)
-  frame-fits =
-      let r = framed line h in
-      let d = and-both (digits (drop 2 line) 4) (digits (drop 4 (drop 2 line)) 4) (sym (digits-add (drop 2 line) 4 4) ∙ r .number-digits) in
-      (omega (arith, spelled-below line 2 (r .kind-digits)), omega (arith, spelled-below (drop 2 line) 4 (d .0)), omega (arith, spelled-below (drop 4 (drop 2 line)) 4 (d .1)))

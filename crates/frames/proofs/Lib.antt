@@ -1,5 +1,4 @@
 -- What the proofs of the functions share, and what callers may use.
 pub mod Lengths
-pub mod Overs
 pub mod Digits
 pub mod Frames

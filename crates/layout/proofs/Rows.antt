@@ -1,11 +1,11 @@
 -- The table by which a vector is found: its length, what stands in it, and how it is filled. Assumes nothing.
-use Prim.Native.Nat.{ℕ, _+_, _-_, _*_, _≤_, _<_}
-use mathlib.Core.Path.{_≡_, refl, sym, ap, _∙_}
+use Prim.Native.Nat.{ℕ, _+_, _-_, _≤_, _<_}
+use mathlib.Core.Path.{_≡_, refl, sym, _∙_}
 use mathlib.Core.Bool.{cond}
 use mathlib.Core.List.{List}
 use native.Mathlib.Omega.{arith}
 use native.Mathlib.Decide.{decLt, ℕ-discrete}
-use lib.ListN.{length, getD, set, replicate, length-set, getD-replicate}
+use lib.ListN.{getD, set, replicate, length-set, getD-replicate}
 use lib.Seq.{getD-set-same, getD-set-other}
 use lib.Dec.{leb}
 use borrow.Author.Tests.{le-leb, lt-leb}
@@ -35,10 +35,6 @@ module _ (s : ℕ → ℕ) (k : ℕ) where
 
   pub units-in : (p q : ℕ) → q ≤ p → p ≤ 32 → getD (startsTo p) (q + 33) 0 ≡ sum s q
   units-in p q h few = getD-table _ 66 (q + 33) (omega arith) ∙ start-units p q h
-
-  pub starts-length : length (rowStarts s k) ≡ 66
-  unfolding rowStarts
-  starts-length = length-table _ 66
 
   pub starts-at : (p : ℕ) → p ≤ k → k ≤ 32 → getD (rowStarts s k) p 0 ≡ offset s k p 0
   unfolding rowStarts

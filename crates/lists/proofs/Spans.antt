@@ -16,7 +16,8 @@ use Rattle.rules.specs.Ranges.{sum, bit1, greatest, over}
 use Rattle.rules.specs.Listing.{inTrack, size, within}
 use Rattle.rules.specs.Questions.{unitsWhere}
 use Rattle.rules.specs.Order.{highestStep}
-use Rattle.rules.proofs.Ranges.{true-or-false, sum-same, sum-zero, sum-one, greatest-next, greatest-least, greatest-same, length-over, over-none, over-next, units-none, units-yes, units-no, units-longer, units-up, units-same}
+use Rattle.rules.proofs.Ranges.{true-or-false, sum-same, sum-zero, sum-one, greatest-next, greatest-least, greatest-same, units-none, units-yes, units-no, units-longer, units-up, units-same}
+use Rattle.rules.proofs.Overs.{length-over, over-none, over-next}
 use Rattle.rules.proofs.Verdicts.{is-within, no-and, and-no}
 use Rattle.rules.proofs.Tracks.{in-none, in-le, in-own, in-other, track-next}
 use Rattle.lists.specs.Spans.{inSpans, spanned, lastSpanned, Tracks, Held}
@@ -186,7 +187,7 @@ pub record Written (from to ts area : List ℕ) (m : ℕ) (list : List ℕ) (cou
 module _ (from to ts area : List ℕ) where
   pub written-none : Written from to ts area 0 area 0
   written-none = record {
-    list-is = rw (units-none (inSpans from to ts)) (sym (over-none area));
+    list-is = rw (units-none (inSpans from to ts)) (over-none area);
     count-is = sym (ap length (units-none (inSpans from to ts)));
   }
 
@@ -224,7 +225,7 @@ module _ (from to ts area : List ℕ) where
     written-yes l t =
         let c = w .count-is in
         record {
-          list-is = rw (w .list-is, c, units-yes (inSpans from to ts) m t) (over-next area (unitsWhere (inSpans from to ts) m) (m + 1) (omega arith));
+          list-is = rw (w .list-is, c, units-yes (inSpans from to ts) m t) (over-next area (unitsWhere (inSpans from to ts) m) _ (m + 1) refl (omega arith));
           count-is = rw (c, units-yes (inSpans from to ts) m t, length-append);
         }
 

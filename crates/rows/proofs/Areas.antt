@@ -57,14 +57,6 @@ module _ {area area′ : List ℕ} {at q : ℕ} {f : ℕ → ℕ} (r : RowIs are
     kept = λ x h. getD-set-other area′ (at + q) x v 0 (past-not x at q h) ∙ r .kept x (past-less x at q h);
   }
 
-  -- one entry more is left as it was
-  pub row-leave : getD area (at + q) 0 ≡ f q → RowIs area area′ at (q + 1) f
-  row-leave e = record {
-    same-length = r .same-length;
-    row = below-more _ q (r .row) (r .kept (at + q) (inr (omega arith)) ∙ e);
-    kept = λ x h. r .kept x (past-less x at q h);
-  }
-
 -- ---- the greater of two rows
 
 abbrev pub joined : List ℕ → ℕ → ℕ → ℕ → ℕ

@@ -64,10 +64,12 @@ module _ (x : Index) (ws ds : List ℕ)
     directory-reach = directory-reach;
     spare = λ y a b. sym (bit-agree (x .words) ws (wordCount (sizes x) (x .head .k)) y words-agree b) ∙ good .spare y a b;
     true-there = λ j l. sym (directory-agrees j l) ∙ good .true-there j l ∙ ones-agree (x .words) ws (wordCount (sizes x) (x .head .k)) j words-agree (omega arith);
-    ones = λ p q a b n.
-        sum-same (vectorOf (sizes x) (x .head .k) ws p q) (vector x p q) (sizes x p + sizes x q)
-        (λ y l. sym (vector-agree (sizes x) (x .head .k) (x .words) ws words-agree p q a b y (rw (vector-other (sizes x) p q n) l)))
-        ∙ good .ones p q a b n;
+    ones = record {
+      each = λ p q a b n.
+          sum-same (vectorOf (sizes x) (x .head .k) ws p q) (vector x p q) (sizes x p + sizes x q)
+          (λ y l. sym (vector-agree (sizes x) (x .head .k) (x .words) ws words-agree p q a b y (rw (vector-other (sizes x) p q n) l)))
+          ∙ good .ones .each p q a b n;
+    };
   }
 
   -- so low and high are the same, and each question answers the same

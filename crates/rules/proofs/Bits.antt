@@ -132,17 +132,9 @@ words-same l m e hl hm h =
 -- ---- ranks
 
 module _ (ws : List ℕ) where
-  pub rank-next : (x : ℕ) → rank ws (x + 1) ≡ rank ws x + bit ws x
-  unfolding rank
-  rank-next x = sum-next (bit ws) x
-
   pub rank-add : (off y : ℕ) → rank ws (off + y) ≡ rank ws off + sum (λ z. bit ws (off + z)) y
   unfolding rank
   rank-add off y = sum-add (bit ws) off y
-
-  pub rank-up : (x y : ℕ) → x ≤ y → rank ws x ≤ rank ws y
-  unfolding rank
-  rank-up x y h = sum-up (bit ws) x y h
 
   pub rank-le : (x : ℕ) → rank ws x ≤ x
   unfolding rank
@@ -199,7 +191,3 @@ zeros-sum f small (suc y) =
 pub place-of-zero : (f : ℕ → ℕ) → ((z : ℕ) → f z ≤ 1) → (m i : ℕ) → placeOfZero f m i ≡ placeOfOne (λ z. 1 - f z) m i
 unfolding placeOfZero placeOfOne
 place-of-zero f small m i = first-same _ _ (suc m) (λ y l. ap (leb i) (sym (zeros-sum f small y)))
-
-pub place-of-zero-is : (f : ℕ → ℕ) (m y i : ℕ) → y < m → f y ≡ 0 → ((z : ℕ) → f z ≤ 1) → (y - sum f y) + 1 ≡ i → placeOfZero f m i ≡ y + 1
-place-of-zero-is f m y i h none small e =
-    place-of-zero f small m i ∙ place-of-one-is (λ z. 1 - f z) m y i h (omega arith) (omega (arith, zeros-sum f small y))

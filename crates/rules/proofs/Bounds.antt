@@ -1,27 +1,25 @@
 -- low and high: how they bound what is needed, the row recurrence of low, and what sound tracks add: u needs v exactly when v's position
 -- is at most low(u, track of v), and v is a direct step of u exactly by kind 11's formula. Assumes nothing.
-use Prim.Native.Nat.{ℕ, zero, suc, _+_, _-_, _*_, _≤_, _<_, max, zero-le}
+use Prim.Native.Nat.{ℕ, zero, suc, _+_, _-_, _≤_, _<_, zero-le}
 use mathlib.Core.Path.{_≡_, refl, sym, ap, _∙_, subst}
-use mathlib.Core.Bool.{Bool, true, false, cond, not, _&&_, _||_}
-use mathlib.Core.List.{List}
+use mathlib.Core.Bool.{true, false, cond, not, _&&_}
 use mathlib.Core.Logic.{_⊎_, inl, inr}
 use native.Mathlib.Omega.{arith}
-use native.Mathlib.Numerals.{add-one}
 use native.Mathlib.Nat.{le-refl, le-trans, le-antisymm}
 use native.Mathlib.Decide.{decLt, decLe, ℕ-discrete}
 use lib.ListN.{length, getD}
 use lib.Dec.{leb, ltb, eqb}
-use borrow.Author.Tests.{eq-eqb, ne-eqb, eqb-true, eqb-false, le-leb, lt-leb, leb-true, leb-false, lt-ltb, le-ltb, ltb-true, ltb-false, not-true, not-false}
+use borrow.Author.Tests.{eq-eqb, ne-eqb, eqb-true, le-leb, leb-true, lt-ltb, ltb-true, not-true, not-false}
 use Rattle.rules.specs.declared.Refusal.the-variants.{UnsoundTrack}
 use Rattle.rules.specs.declared.Verdict.the-variants.{Fine}
-use Rattle.rules.specs.Ranges.{greatest, smallest, every, some}
-use Rattle.rules.specs.Listing.{Listing, Listed, pairs, upper, lower, track, inTrack, size, position}
+use Rattle.rules.specs.Ranges.{greatest, every, some}
+use Rattle.rules.specs.Listing.{Listing, Listed, pairs, upper, lower, track, size, position}
 use Rattle.rules.specs.Order.{needs, step, unitBefore, unsound, soundVerdict, low, high}
 use Rattle.rules.specs.Questions.{kind10By, kind11By}
-use Rattle.rules.proofs.Ranges.{true-or-false, not-both, greatest-bound, greatest-least, greatest-met, greatest-is, smallest-start, smallest-bound, smallest-most, smallest-met, every-all, every-one, some-yes, some-none, some-no, some-find}
-use Rattle.rules.proofs.Verdicts.{and-both, both-and, and-no, no-and, not-yes, not-no, same-test, refuse-fine, refuse-none}
-use Rattle.rules.proofs.Needs.{Pairs, listed-at, needs-down, needs-up, needs-trans, needs-first, needs-more, needs-in, needs-path}
-use Rattle.rules.proofs.Tracks.{position-pos, position-size, position-up, position-same, in-le, UnitAt, unit-found, before-none, Follows, before-is, track-next}
+use Rattle.rules.proofs.Ranges.{true-or-false, not-both, greatest-bound, greatest-least, greatest-met, smallest-start, smallest-bound, smallest-met, every-all, every-one, some-yes, some-none}
+use Rattle.rules.proofs.Verdicts.{and-both, both-and, not-yes, same-test, refuse-fine}
+use Rattle.rules.proofs.Needs.{listed-at, needs-down, needs-trans, needs-first, needs-more, needs-in, needs-path}
+use Rattle.rules.proofs.Tracks.{position-pos, position-size, position-up, position-same, in-le, before-none, Follows, before-is, track-next}
 use Rattle.rules.proofs.Accepted.{Accepted}
 
 -- what a hop to v brings in track q: v itself where it is of that track, else what v needs there
@@ -209,10 +207,6 @@ module _ (c : Listing) (a : Accepted c) where
       let g : not (eqb (low c u (track (c .tracks) u) + 1) (position (c .tracks) u)) ≡ false =
       rw e at (sym (own-sound (u - 1) (omega arith)) ∙ f) in
       eqb-true _ _ (not-false _ g)
-
-  pub own-is-sound : OwnLow → soundVerdict c ≡ Fine
-  unfolding soundVerdict
-  own-is-sound h = refuse-none (unsound c) (c .n) (λ i. UnsoundTrack (i + 1)) (λ i l. own-sound i l ∙ rw (eq-eqb _ _ (h (i + 1) (omega arith) (omega arith))))
 
 -- ---- with sound tracks
 

@@ -17,7 +17,7 @@ use Rattle.rules.specs.Layout.{wordCount}
 use Rattle.rules.specs.Index.{Index, index, sizes, lowIn, highIn, whole, builtIndex, builtHead, builtWords, builtDirectory, builtCount}
 use Rattle.rules.specs.Questions.{kind10, kind11}
 use Rattle.rules.specs.Outcomes.{roomVerdict, filledVerdict, buildVerdict, BuildOutcome, buildOutcome}
-use Rattle.rules.proofs.Ranges.{getD-over, length-over}
+use Rattle.rules.proofs.Overs.{getD-over, length-over}
 use Rattle.rules.proofs.Verdicts.{and-both, then-fine, unless-fine}
 use Rattle.rules.proofs.Accepted.{Accepted, listing-fine}
 use Rattle.rules.proofs.Wholes.{is-whole}

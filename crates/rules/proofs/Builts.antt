@@ -28,7 +28,8 @@ use Rattle.rules.proofs.Layouts.{BitHome, bit-home-one, offset-within, 
 use Rattle.rules.proofs.Tracks.{position-pos, position-size, sizes-all, UnitAt, unit-found, unit-is}
 use Rattle.rules.proofs.Accepted.{Accepted}
 use Rattle.rules.proofs.Bounds.{track-below, low-size, sound-own, needs-low, low-rises, high-most, high-pos, needs-high, step-between}
-use Rattle.rules.proofs.Wholes.{Whole, is-whole, low-at-own, low-at-other, vector-le, needs-by-high, high-in-most, unit-track, unit-position}
+use Rattle.rules.proofs.Vectors.{low-at-own, low-at-other, vector-le}
+use Rattle.rules.proofs.Wholes.{Whole, is-whole, needs-by-high, high-in-most, unit-track, unit-position}
 
 -- ---- the words
 
@@ -306,7 +307,7 @@ module _ (c : Listing) (a : Accepted c) (sound : soundVerdict c ≡ Fine) where
     directory-reach = omega (arith, count-built c a, length-directory c);
     spare = λ y l h. bit-built c y (omega (arith, count-built c a)) ∙ past-built c a y (omega (arith, room-built c a));
     true-there = λ j l. directory-built c j (omega (arith, count-built c a));
-    ones = λ p q row column other. vector-built p q row column other .ones;
+    ones = record { each = λ p q row column other. vector-built p q row column other .ones };
   }
 
   pub built-whole : whole (builtIndex c) ≡ true

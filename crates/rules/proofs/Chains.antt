@@ -233,17 +233,3 @@ module _ (r : ℕ → ℕ → Bool) (n : ℕ) where
           let a = for-listed r (suc i) n h in
           let b = for-listed r (suc j) n k in
           inl (omega arith)
-
--- tests that agree on the units in question give the same list
-pub for-same : (r s : ℕ → ℕ → Bool) (u m : ℕ) → ((v : ℕ) → 1 ≤ v → v ≤ m → r u v ≡ s u v) → pairsFor r u m ≡ pairsFor s u m
-unfolding pairsFor
-for-same r s u zero h = refl
-for-same r s u (suc m) h =
-    rw (for-same r s u m (λ v p q. h v p (omega arith)), h (suc m) (omega arith) (omega arith))
-
-pub in-same : (r s : ℕ → ℕ → Bool) (n m : ℕ) → ((u v : ℕ) → 1 ≤ u → u ≤ m → 1 ≤ v → v ≤ n → r u v ≡ s u v)
-    → pairsIn r n m ≡ pairsIn s n m
-unfolding pairsIn
-in-same r s n zero h = refl
-in-same r s n (suc m) h =
-    rw (in-same r s n m (λ u v p q. h u v p (omega arith)), for-same r s (suc m) n (λ v. h (suc m) v (omega arith) (omega arith)))

@@ -1,4 +1,4 @@
--- Where each vector stands: a vector starts where the room before it ends, so no two rooms meet and each bit has one home; and the bits and words in all.
+-- Where each vector stands: a vector starts where the room before it ends, so no two rooms meet and no bit stands in two; and the bits and words in all.
 -- All of it is read off the sums of the layout. Only room-holds, room-is, room-meant, room-all and room-same know what a room is.
 -- Assumes nothing.
 use Prim.Native.Nat.{ℕ, zero, suc, _+_, _-_, _*_, _≤_, _<_}
@@ -12,27 +12,9 @@ use lib.Dec.{eqb, ltb}
 use borrow.Author.Tests.{lt-ltb, le-ltb, eq-eqb, ne-eqb}
 use Rattle.rules.specs.Ranges.{sum, bit1}
 use Rattle.rules.specs.Layout.{vectorBits, vectorRoom, offset, roomBits, wordCount, meantBits}
-use Rattle.rules.proofs.Ranges.{sum-none, sum-next, sum-suc, sum-same, sum-le, sum-term, sum-plus, sum-const}
+use Rattle.rules.proofs.Ranges.{sum-none, sum-next, sum-same, sum-term, sum-plus, sum-const}
 
 -- ---- sums
-
--- the term of a sum in which x lies
-pub record SumHome (f : ℕ → ℕ) (m x : ℕ) : Type 0 where
-  pub term : ℕ
-  pub within : term < m
-  pub from : sum f term ≤ x
-  pub below : x < sum f term + f term
-
-pub sum-home : (f : ℕ → ℕ) (m x : ℕ) → x < sum f m → SumHome f m x
-sum-home f zero x h = absurd (omega (arith, sum-none f))
-sum-home f (suc m) x h = go (sum-home f m x) (decLt x (sum f m))
-  where
-    go : (x < sum f m → SumHome f m x) → Dec (x < sum f m) → SumHome f (suc m) x
-    go before (yes l) =
-        let r = before l in
-        record { term = r .term; within = omega arith; from = r .from; below = r .below }
-    go before (no n) =
-        record { term = m; within = omega arith; from = omega arith; below = omega (arith, sum-suc f m) }
 
 pub sum-times : (a : ℕ) (f : ℕ → ℕ) (m : ℕ) → sum (λ i. a * f i) m ≡ a * sum f m
 unfolding sum
@@ -110,23 +92,6 @@ pub record BitHome (s : ℕ → ℕ) (k x : ℕ) : Type 0 where
   pub below : x < offset s k p q + vectorRoom s p q
 
 module _ (s : ℕ → ℕ) (k x : ℕ) where
-  pub bit-home : x < roomBits s k → BitHome s k x
-  unfolding roomBits offset
-  bit-home h = in-row (sum-home (rowRoom s k) k x h)
-    where
-      in-row : SumHome (rowRoom s k) k x → BitHome s k x
-      in-row r = in-column (sum-home (vectorRoom s (r .term)) k (x - sum (rowRoom s k) (r .term)) (omega arith))
-        where
-          in-column : SumHome (vectorRoom s (r .term)) k (x - sum (rowRoom s k) (r .term)) → BitHome s k x
-          in-column c = record {
-            p = r .term;
-            q = c .term;
-            row = r .within;
-            column = c .within;
-            from = omega arith;
-            below = omega arith;
-          }
-
   -- and no other vector has it
   pub bit-home-one : (a b : BitHome s k x) → (a .p ≡ b .p) × (a .q ≡ b .q)
   bit-home-one a b = go (decLt (a .p) (b .p)) (decLt (b .p) (a .p)) (decLt (a .q) (b .q)) (decLt (b .q) (a .q))
@@ -160,10 +125,6 @@ module _ (s : ℕ → ℕ) where
   pub room-is : (p q : ℕ) → vectorRoom s p q ≡ vectorBits s p q
   unfolding vectorRoom
   room-is p q = refl
-
-  pub meant-room : (k : ℕ) → meantBits s k ≤ roomBits s k
-  unfolding meantBits roomBits
-  meant-room k = sum-le _ _ k (λ p l. sum-le _ _ k (λ q h. room-holds p q))
 
   pub room-meant : (k : ℕ) → roomBits s k ≡ meantBits s k
   unfolding meantBits roomBits vectorRoom
@@ -213,15 +174,32 @@ module _ (s : ℕ → ℕ) where
   unfolding wordCount
   words-hold k = omega arith
 
-  pub words-tight : (k : ℕ) → 64 * wordCount s k < roomBits s k + 64
-  unfolding wordCount
-  words-tight k = omega arith
-
   pub words-most : (k : ℕ) → sum s k ≤ 1024 → k ≤ 32 → wordCount s k ≤ 992
   unfolding wordCount
   words-most k most few =
       let few′ : k - 1 ≤ 31 = omega arith in
       omega (arith, room-meant k, meant-bits k, mul-le-mul most few′)
+
+  pub room-most : (k : ℕ) → sum s k ≤ 1024 → k ≤ 32 → roomBits s k ≤ 63488
+  room-most k most few = omega (arith, words-hold k, words-most k most few)
+
+  pub length-most : (k q : ℕ) → sum s k ≤ 1024 → q < k → s q ≤ 1024
+  length-most k q most h = omega (arith, sum-term s k q h)
+
+-- ---- where a vector ends
+
+module _ (s : ℕ → ℕ) (k : ℕ) where
+  -- the next vector starts there
+  pub offset-end : (p q : ℕ) → offset s k p (q + 1) ≡ offset s k p q + vectorBits s p q
+  offset-end p q = omega (arith, offset-next s k p q, room-is s p q)
+
+  -- there is no vector p,p
+  pub offset-own : (p : ℕ) → offset s k p (p + 1) ≡ offset s k p p
+  offset-own p = omega (arith, offset-end p p, vector-own s p)
+
+  pub vector-within : (p q : ℕ) → p < k → q < k → (p ≡ q → ⊥) → offset s k p q + (s p + s q) ≤ 64 * wordCount s k
+  vector-within p q l h n =
+      omega (arith, vector-other s p q n, room-holds s p q, offset-within s k p q l h, words-hold s k)
 
 -- ---- the same lengths
 
@@ -251,23 +229,15 @@ module _ (s t : ℕ → ℕ) (k : ℕ) (same : (q : ℕ) → q < k → s q ≡ t
   unfolding wordCount
   words-same = rw room-bits-same
 
-  pub meant-same : meantBits s k ≡ meantBits t k
-  unfolding meantBits
-  meant-same = sum-same _ _ k (λ p l. sum-same _ _ k (λ q h. vector-same p q l h))
-
 -- ---- the ones before a vector
 
 -- the ones of vector p,q on a whole index
 abbrev pub onesIn : (ℕ → ℕ) → ℕ → ℕ → ℕ
 onesIn s p q = cond (eqb p q) 0 (s p)
 
--- the ones of the vectors before p,q
-abbrev pub onesTo : (ℕ → ℕ) → ℕ → ℕ → ℕ → ℕ
-onesTo s k p q = sum (λ p′. sum (onesIn s p′) k) p + sum (onesIn s p) q
-
 module _ (s : ℕ → ℕ) where
   -- the vectors of track p before p,q have s p ones each
-  ones-row : (p q : ℕ) → sum (onesIn s p) q ≡ (q - bit1 (ltb p q)) * s p
+  pub ones-row : (p q : ℕ) → sum (onesIn s p) q ≡ (q - bit1 (ltb p q)) * s p
   ones-row p q = go (decLt p q) (sum-without (λ q. s p) p q)
     where
       go : Dec (p < q) → sum (onesIn s p) q + bit1 (ltb p q) * s p ≡ sum (λ q. s p) q → sum (onesIn s p) q ≡ (q - bit1 (ltb p q)) * s p
@@ -281,13 +251,3 @@ module _ (s : ℕ → ℕ) where
 
   pub ones-in-row : (k p : ℕ) → p < k → sum (onesIn s p) k ≡ (k - 1) * s p
   ones-in-row k p h = rw (ones-row p k, lt-ltb p k h)
-
-  -- each track before p has k - 1 vectors, and track p those before p,q
-  pub ones-to : (k p q : ℕ) → p ≤ k → onesTo s k p q ≡ (k - 1) * sum s p + (q - bit1 (ltb p q)) * s p
-  ones-to k p q l =
-      omega (
-        arith,
-        sum-same (λ p′. sum (onesIn s p′) k) (λ p′. (k - 1) * s p′) p (λ p′ h. ones-in-row k p′ (omega arith)),
-        ones-row p q,
-        sum-times (k - 1) s p,
-      )

@@ -1,5 +1,6 @@
 -- The laws about the definitions of specs/, in the order of a textbook.
 pub mod Ranges
+pub mod Overs
 pub mod Verdicts
 pub mod Checks
 pub mod Paths
@@ -12,6 +13,7 @@ pub mod Steps
 pub mod Accepted
 pub mod Tracks
 pub mod Bounds
+pub mod Vectors
 pub mod Wholes
 pub mod Builts
 pub mod Areas

@@ -19,7 +19,7 @@ use Rattle.rules.specs.Listing.{Listed, pairs, upper, lower, within, ref
 use Rattle.rules.specs.Order.{Needs, DirectStep, leads, needs, step}
 use Rattle.rules.proofs.Ranges.{last-or-before, true-or-false, not-both, some-yes, some-find, some-none, some-no, some-same}
 use Rattle.rules.proofs.Verdicts.{and-both, both-and, and-no, or-either, either-or, not-yes, same-test, within-is, is-within, then-fine, fine-then, refuse-none, refuse-fine}
-use Rattle.rules.proofs.Paths.{path-join, path-down, direct-hop, path-directs, paths-cover, direct-contained}
+use Rattle.rules.proofs.Paths.{path-join, path-down, direct-hop, path-directs, paths-cover}
 
 -- ---- the pairs of a list
 
@@ -154,15 +154,6 @@ module _ (l : List ℕ) (ordered : Ordered l) where
           let e : a .at ≡ b .at = omega arith in
           absurd
           (before-not (sym (a .first-is) ∙ ap (upper l) e ∙ b .first-is) (sym (a .second-is) ∙ ap (lower l) e ∙ b .second-is) h)
-
-  -- each pair is listed once
-  pub listed-once : (i j : ℕ) → i < pairs l → j < pairs l → upper l i ≡ upper l j → lower l i ≡ lower l j → i ≡ j
-  listed-once i j p q e f = go (decLt i j) (decLt j i)
-    where
-      go : Dec (i < j) → Dec (j < i) → i ≡ j
-      go (yes b) d = absurd (before-not e f (ascends-far i j b q))
-      go (no n) (yes b) = absurd (before-not (sym e) (sym f) (ascends-far j i b p))
-      go (no n) (no m) = omega arith
 
 -- a list in order whose pairs are all listed in another in order has no more pairs
 pub pairs-most : (l m : List ℕ) → Ordered l → Ordered m
@@ -343,14 +334,6 @@ module _ (l m : List ℕ) (down-l : Descending l) (down-m : Descending m) where
     where
       each : (u v : ℕ) → DirectStep l u v → Needs m u v
       each u v d = step-direct m down-m (h u v (direct-step l down-l d)) .path
-
-  -- every direct step is listed in any list with the same needs
-  pub steps-contained : ((u v : ℕ) → needs l u v ≡ needs m u v) → {u v : ℕ} → DirectStep l u v → Listed m u v
-  steps-contained h d =
-      direct-contained
-      (λ u v p. needs-path (sym (h u v) ∙ path-needs l down-l p))
-      (λ u v p. needs-path (h u v ∙ path-needs m down-m p))
-      d
 
 -- the same direct steps give the same needs
 pub needs-same : (l m : List ℕ) → Descending l → Descending m

@@ -49,28 +49,12 @@ module _ {R S : ℕ → ℕ → Type 0} where
   pub path-map : ((u v : ℕ) → R u v → S u v) → {u v : ℕ} → Path⁺ R u v → Path⁺ S u v
   path-map f = path-flat (λ u v h. one (f u v h))
 
-  -- relations with the same paths have the same direct steps
-  pub directs-same : ((u v : ℕ) → Path⁺ R u v → Path⁺ S u v) → ((u v : ℕ) → Path⁺ S u v → Path⁺ R u v)
-      → {u v : ℕ} → Direct R u v → Direct S u v
-  directs-same to from {u} {v} d = record {
-    path = to u v (d .path);
-    alone = λ w p q. d .alone w (from u w p) (from w v q);
-  }
-
-  -- so each of them is a hop of the other relation
-  pub direct-contained : ((u v : ℕ) → Path⁺ R u v → Path⁺ S u v) → ((u v : ℕ) → Path⁺ S u v → Path⁺ R u v)
-      → {u v : ℕ} → Direct R u v → S u v
-  direct-contained to from d = direct-hop (directs-same to from d)
-
 -- ---- hops that go down
 
 module _ {R : ℕ → ℕ → Type 0} (down : (u v : ℕ) → R u v → v < u) where
   pub path-down : {u v : ℕ} → Path⁺ R u v → v < u
   path-down (one {u} {v} h) = down u v h
   path-down (more {u} {w} h p) = omega (arith, down u w h, path-down p)
-
-  pub path-irreflexive : {u : ℕ} → Path⁺ R u u → ⊥
-  path-irreflexive p = omega (arith, path-down p)
 
   module _ (dec : (u v : ℕ) → Dec (Path⁺ R u v)) where
     -- by the distance from u to v: a number between cuts the path into two shorter ones

@@ -3,16 +3,16 @@
 -- Assumes nothing.
 use Prim.Native.Nat.{ℕ, zero, suc, _+_, _-_, _≤_, _<_}
 use mathlib.Core.Path.{_≡_, sym, ap, _∙_}
-use mathlib.Core.Bool.{Bool, false}
+use mathlib.Core.Bool.{Bool}
 use mathlib.Core.Logic.{_⊎_, inl, inr}
 use native.Mathlib.Omega.{arith}
-use native.Mathlib.Numerals.{add-one}
 use native.Mathlib.Decide.{decLt, decLe, ℕ-discrete}
 use lib.Dec.{leb}
-use borrow.Author.Tests.{le-leb, lt-leb, leb-true, leb-false}
+use borrow.Author.Tests.{le-leb, leb-true, leb-false}
 use Rattle.rules.specs.Ranges.{sum, first}
 use Rattle.rules.specs.Bits.{placeOfOne, placeOfZero}
-use Rattle.rules.proofs.Ranges.{last-or-before, not-both, sum-none, sum-suc, sum-same, sum-add, sum-up, sum-zero, sum-most, first-is, first-before, first-met, first-same}
+use Rattle.rules.proofs.Ranges.{last-or-before, not-both, sum-none, sum-suc, sum-same, sum-add, sum-up, sum-zero, sum-most, first-before, first-met, first-same}
+use Rattle.rules.proofs.Bits.{place-of-one-is}
 
 -- ---- the first place that a count reaches
 
@@ -54,13 +54,6 @@ module _ (c : ℕ → ℕ) (m i : ℕ) where
             before = omega (arith, ap c e, step y);
             upto = omega (arith, step y);
           }
-
-  rise-place-is : (y : ℕ) → ((j : ℕ) → j ≤ y → c j ≤ c y) → y < m → c y + 1 ≡ i → c (suc y) ≡ i
-      → first (λ z. leb i (c z)) (suc m) ≡ y + 1
-  rise-place-is y up l before upto = rw add-one (first-is _ (suc m) (suc y) (omega arith) none (le-leb i (c (suc y)) (omega arith)))
-    where
-      none : (j : ℕ) → j < suc y → leb i (c j) ≡ false
-      none j h = lt-leb i (c j) (omega (arith, up j (omega arith)))
 
 -- where a count is smaller, the place is earlier
 count-less : (c : ℕ → ℕ) → ((y z : ℕ) → y ≤ z → c y ≤ c z) → (y z : ℕ) → c y < c z → y < z
@@ -123,10 +116,6 @@ module _ (f : ℕ → ℕ) (bits : (y : ℕ) → f y ≤ 1) (m : ℕ) where
             upto = r .upto;
           }
 
-  pub one-place-is : (i y : ℕ) → y < m → f y ≡ 1 → sum f y + 1 ≡ i → placeOfOne f m i ≡ y + 1
-  unfolding placeOfOne
-  one-place-is i y l one before = rise-place-is (sum f) m i y (λ j h. sum-up f j y h) l before (omega (arith, sum-suc f y))
-
   pub zero-place : (j : ℕ) → 1 ≤ j → j ≤ m - sum f m → ZeroPlace f m j (placeOfZero f m j)
   unfolding placeOfZero
   zero-place j pos most = go _ (rise-place (λ y. y - sum f y) m j (omega arith) (λ y. omega (arith, zeros-suc f bits y)) pos most)
@@ -142,20 +131,6 @@ module _ (f : ℕ → ℕ) (bits : (y : ℕ) → f y ≤ 1) (m : ℕ) where
             upto = r .upto;
           }
 
-  pub zero-place-is : (j y : ℕ) → y < m → f y ≡ 0 → y - sum f y + 1 ≡ j → placeOfZero f m j ≡ y + 1
-  unfolding placeOfZero
-  zero-place-is j y l none before =
-      rise-place-is (λ x. x - sum f x) m j y (λ x h. zeros-up f bits x y h) l before (omega (arith, zeros-suc f bits y))
-
-  -- a later 1 stands at a later place
-  pub one-place-up : (i j : ℕ) → 1 ≤ i → i < j → j ≤ sum f m → placeOfOne f m i < placeOfOne f m j
-  one-place-up i j pos l most =
-      count-less (sum f) (sum-up f) _ _ (omega (arith, one-place i pos (omega arith), one-place j (omega arith) most))
-
-  pub zero-place-up : (i j : ℕ) → 1 ≤ i → i < j → j ≤ m - sum f m → placeOfZero f m i < placeOfZero f m j
-  zero-place-up i j pos l most =
-      count-less (λ y. y - sum f y) (zeros-up f bits) _ _ (omega (arith, zero-place i pos (omega arith), zero-place j (omega arith) most))
-
   -- placeOfOne f m i - i zeros stand before the i-th 1, at most all the zeros
   pub one-place-low : (i : ℕ) → 1 ≤ i → i ≤ sum f m → (i ≤ placeOfOne f m i) × (placeOfOne f m i - i ≤ m - sum f m)
   one-place-low i pos most =
@@ -167,12 +142,6 @@ module _ (f : ℕ → ℕ) (bits : (y : ℕ) → f y ≤ 1) (m : ℕ) where
   zero-place-low j pos most =
       let r = zero-place j pos most in
       (omega arith, omega (arith, ones-most f bits (placeOfZero f m j), sum-up f (placeOfZero f m j) m (r .within)))
-
-  -- a later 1 has no fewer zeros before it
-  pub one-place-rises : (i j : ℕ) → 1 ≤ i → i < j → j ≤ sum f m → placeOfOne f m i - i ≤ placeOfOne f m j - j
-  one-place-rises i j pos l most =
-      let h : placeOfOne f m i ≤ placeOfOne f m j = omega (arith, one-place-up i j pos l most) in
-      omega (arith, one-place i pos (omega arith), one-place j (omega arith) most, zeros-up f bits (placeOfOne f m i) (placeOfOne f m j) h)
 
   -- ---- ones against zeros
 
@@ -238,7 +207,6 @@ pub record FromLow (f lows : ℕ → ℕ) (a b : ℕ) : Type 0 where
   pub low : (i : ℕ) → 1 ≤ i → i ≤ a → placeOfOne f (a + b) i - i ≡ lows i
   -- placeOfZero f (a + b) j - j + 1 is the smallest i with j ≤ lows i, or a + 1 where there is none
   pub high : (i j : ℕ) → 1 ≤ i → i ≤ a → 1 ≤ j → j ≤ b → j ≤ lows i → placeOfZero f (a + b) j - j + 1 ≤ i
-  pub high-back : (i j : ℕ) → 1 ≤ i → i ≤ a → 1 ≤ j → j ≤ b → placeOfZero f (a + b) j - j + 1 ≤ i → j ≤ lows i
   pub high-most : (j : ℕ) → 1 ≤ j → j ≤ b → placeOfZero f (a + b) j - j + 1 ≤ a + 1
 
 module _ (f lows : ℕ → ℕ) (a b : ℕ) (bits : (y : ℕ) → f y ≤ 1)
@@ -297,7 +265,6 @@ module _ (f lows : ℕ → ℕ) (a b : ℕ) (bits : (y : ℕ) → f y ≤ 1)
     ones = ones;
     low = low;
     high = λ i j i1 ia j1 jb h. places-cross f bits (a + b) i j i1 (in-ones ia) j1 (in-zeros jb) (omega (arith, low i i1 ia));
-    high-back = λ i j i1 ia j1 jb h. rw (sym (low i i1 ia)) (places-cross-back f bits (a + b) i j i1 (in-ones ia) j1 (in-zeros jb) h);
     high-most = λ j j1 jb. omega (arith, ones, zero-place-low f bits (a + b) j j1 (in-zeros jb) .1);
   }
     where
@@ -318,4 +285,4 @@ module _ (f lows : ℕ → ℕ) (a b : ℕ) (bits : (y : ℕ) → f y ≤ 1)
           let upto : sum f (i + lows i) ≡ i = between-ones i (i + lows i) l w (λ p. omega arith) next in
           let is-one : f (i + lows i - 1) ≡ 1 = one i pos l in
           let before : sum f (i + lows i - 1) + 1 ≡ i = omega (arith, sum-suc f (i + lows i - 1), ap (sum f) e) in
-          omega (arith, one-place-is f bits (a + b) i (i + lows i - 1) (omega arith) is-one before)
+          omega (arith, place-of-one-is f (a + b) (i + lows i - 1) i (omega arith) is-one before)

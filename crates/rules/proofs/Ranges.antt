@@ -2,20 +2,20 @@
 -- Assumes nothing.
 use Prim.Native.Nat.{ℕ, zero, suc, _+_, _-_, _*_, _/_, _%_, _≤_, _<_, max, min, zero-le}
 use mathlib.Core.Path.{_≡_, refl, sym, ap, _∙_, subst}
-use mathlib.Core.Bool.{Bool, true, false, cond, not, _&&_, _||_, or-true}
-use mathlib.Core.List.{List, [], _∷_, _++_, append-nil, append-assoc}
+use mathlib.Core.Bool.{Bool, true, false, cond, _&&_, _||_, or-true}
+use mathlib.Core.List.{List, [], _∷_, _++_, append-nil}
 use mathlib.Core.Logic.{_⊎_, inl, inr}
 use native.Mathlib.Omega.{arith}
 use native.Mathlib.Numerals.{add-one}
 use native.Mathlib.Nat.{le-refl, le-antisymm, add-suc, add-zero, suc-mul, div-add-mod', mod-lt, div-lt-iff-lt-mul}
-use native.Mathlib.Decide.{decLt, decLe, ℕ-discrete}
-use lib.ListN.{length, getD, set, drop, take, length-append, length-drop, replicate, length-set, length-replicate, getD-replicate}
-use lib.Seq.{getD-append-add, getD-append-seam, getD-at, getD-drop, drop-cons, set-append-seam, ext-getD, drop-length, getD-set-same, getD-set-other}
+use native.Mathlib.Decide.{decLt}
+use lib.ListN.{length, getD, set, length-append, replicate, length-set, length-replicate, getD-replicate}
+use lib.Seq.{getD-append-add, getD-append-seam, getD-at, ext-getD, getD-set-same, getD-set-other}
 use lib.Arith.{digits-lt}
 use lib.ListN.{List·getD-append}
 use lib.Dec.{leb, ltb}
 use borrow.Author.Tests.{lt-ltb, le-ltb, le-leb}
-use Rattle.rules.specs.Ranges.{sum, bit1, count, greatest, smallest, first, some, every, keep, table, rows, over}
+use Rattle.rules.specs.Ranges.{sum, bit1, count, greatest, smallest, first, some, every, keep, table, rows}
 use Rattle.rules.specs.Questions.{unitsWhere}
 
 -- ---- numbers below a bound
@@ -115,10 +115,6 @@ module _ (p : ℕ → Bool) where
   unfolding count
   count-none = refl
 
-  pub count-suc : (m : ℕ) → count p (suc m) ≡ count p m + bit1 (p m)
-  unfolding count
-  count-suc m = refl
-
   pub count-next : (m : ℕ) → count p (m + 1) ≡ count p m + bit1 (p m)
   unfolding count
   count-next m = rw add-one
@@ -147,12 +143,6 @@ pub count-past : (p : ℕ → Bool) (i m : ℕ) → i < m → p i ≡ true → c
 count-past p i m h t =
     let r : count p (i + 1) ≤ count p m = count-up p (i + 1) m (omega arith) in
     omega (arith, count-yes p i t)
-
-pub count-same : (p q : ℕ → Bool) (m : ℕ) → ((i : ℕ) → i < m → p i ≡ q i) → count p m ≡ count q m
-unfolding count
-count-same p q zero h = refl
-count-same p q (suc m) h =
-    rw (h m (omega arith), count-same p q m (λ i l. h i (omega arith)))
 
 -- below a count lies a number that passes: the one with that many before it
 pub count-find : (p : ℕ → Bool) (m c : ℕ) → c < count p m → (i : ℕ) × (i < m) × (p i ≡ true) × (count p i ≡ c)
@@ -215,14 +205,6 @@ greatest-same f g zero h = refl
 greatest-same f g (suc m) h = rw (h m (omega arith), greatest-same f g m (λ i l. h i (omega arith)))
 
 module _ (d : ℕ) (f : ℕ → ℕ) where
-  pub smallest-none : smallest d f 0 ≡ d
-  unfolding smallest
-  smallest-none = refl
-
-  pub smallest-next : (m : ℕ) → smallest d f (m + 1) ≡ min (smallest d f m) (f m)
-  unfolding smallest
-  smallest-next m = rw add-one
-
   pub smallest-start : (m : ℕ) → smallest d f m ≤ d
   unfolding smallest
   smallest-start zero = le-refl d
@@ -237,11 +219,6 @@ module _ (d : ℕ) (f : ℕ → ℕ) where
       go below (inl e) = omega (arith, ap f e)
       go below (inr l) = omega (arith, below l)
 
-  pub smallest-most : (m b : ℕ) → b ≤ d → ((i : ℕ) → i < m → b ≤ f i) → b ≤ smallest d f m
-  unfolding smallest
-  smallest-most zero b s h = s
-  smallest-most (suc m) b s h = omega (arith, h m (omega arith), smallest-most m b s (λ i l. h i (omega arith)))
-
   -- the smallest is the start, or one of them
   pub smallest-met : (m : ℕ) → smallest d f m < d → (i : ℕ) × (i < m) × (f i ≡ smallest d f m)
   unfolding smallest
@@ -252,10 +229,6 @@ module _ (d : ℕ) (f : ℕ → ℕ) where
           → (i : ℕ) × (i < suc m) × (f i ≡ min (smallest d f m) (f m))
       go below (yes l) = (m, omega arith, omega arith)
       go below (no n) = let r = below (omega arith) in (r .0, omega arith, omega (arith, r .2))
-
--- a bound that is met is the smallest
-pub smallest-is : (d : ℕ) (f : ℕ → ℕ) (m i b : ℕ) → i < m → f i ≡ b → b ≤ d → ((j : ℕ) → j < m → b ≤ f j) → smallest d f m ≡ b
-smallest-is d f m i b l e s h = omega (arith, smallest-bound d f m i l, smallest-most d f m b s h)
 
 -- ---- first
 
@@ -414,20 +387,6 @@ length-kept true m = refl
 length-kept false m = refl
 
 module _ (p : ℕ → Bool) where
-  pub keep-none : keep p 0 ≡ []
-  unfolding keep
-  keep-none = refl
-
-  pub keep-next : (m : ℕ) → keep p (m + 1) ≡ keep p m ++ cond (p m) (m ∷ []) []
-  unfolding keep
-  keep-next m = rw add-one
-
-  pub keep-yes : (m : ℕ) → p m ≡ true → keep p (m + 1) ≡ keep p m ++ (m ∷ [])
-  keep-yes m h = keep-next m ∙ rw h
-
-  pub keep-no : (m : ℕ) → p m ≡ false → keep p (m + 1) ≡ keep p m
-  keep-no m h = keep-next m ∙ rw h (append-nil (keep p m))
-
   pub length-keep : (m : ℕ) → length (keep p m) ≡ count p m
   unfolding keep count
   length-keep zero = refl
@@ -549,36 +508,6 @@ rows-is f k m l e h = ext-getD 0 l (rows f m k) (e ∙ sym (length-rows f k m)) 
             rw (sym d) (h (x / k) (x % k) i r ∙ sym (getD-rows f k m (x / k) (x % k) i r))
         go (no z) = absurd (let k0 : k ≡ 0 = omega arith in let q′ : x < m * 0 = rw (e, k0) at q in omega (arith, native.Mathlib.Nat.mul-zero m))
 
--- ---- an area whose first entries are written
-
-pub length-over : (area xs : List ℕ) → length xs ≤ length area → length (over area xs) ≡ length area
-unfolding over
-length-over area xs h = rw (length-append, length-drop) (omega arith)
-
-pub getD-over : (area xs : List ℕ) (i : ℕ) → i < length xs → getD (over area xs) i 0 ≡ getD xs i 0
-unfolding over
-getD-over area xs i h = List·getD-append xs (drop (length xs) area) 0 i h
-
-pub getD-past : (area xs : List ℕ) (i : ℕ) → length xs ≤ i → getD (over area xs) i 0 ≡ getD area i 0
-unfolding over
-getD-past area xs i h =
-    let e : length xs + (i - length xs) ≡ i = omega arith in
-    rw (sym e) (getD-append-add xs (drop (length xs) area) (i - length xs) 0 ∙ getD-drop (length xs) area (i - length xs) 0)
-
--- an area that has these entries first and is as it was past them
-pub over-is : (area xs l : List ℕ) → length xs ≤ length area → length l ≡ length area
-    → ((i : ℕ) → i < length xs → getD l i 0 ≡ getD xs i 0)
-    → ((i : ℕ) → length xs ≤ i → i < length area → getD l i 0 ≡ getD area i 0)
-    → l ≡ over area xs
-over-is area xs l h e written kept = ext-getD 0 l (over area xs) (e ∙ sym (length-over area xs h)) at-each
-  where
-    at-each : (i : ℕ) → i < length l → getD l i 0 ≡ getD (over area xs) i 0
-    at-each i q = go (decLt i (length xs))
-      where
-        go : Dec (i < length xs) → getD l i 0 ≡ getD (over area xs) i 0
-        go (yes w) = written i w ∙ sym (getD-over area xs i w)
-        go (no n) = kept i (omega arith) (omega arith) ∙ sym (getD-past area xs i (omega arith))
-
 -- ---- what follows brings nothing
 
 pub greatest-past : (f : ℕ → ℕ) (a m : ℕ) → a ≤ m → ((x : ℕ) → a ≤ x → x < m → f x ≡ 0) → greatest f m ≡ greatest f a
@@ -587,16 +516,6 @@ greatest-past f a m h z = le-antisymm (greatest-least f m (greatest f a) (λ x l
     under : (x : ℕ) → x < m → Dec (x < a) → f x ≤ greatest f a
     under x l (yes b) = greatest-bound f a x b
     under x l (no n) = omega (arith, z x (omega arith) l)
-
-pub over-none : (area : List ℕ) → over area [] ≡ area
-unfolding over
-over-none area = refl
-
--- one entry more, stored right past the written ones
-pub over-next : (area xs : List ℕ) (x : ℕ) → length xs < length area → set (over area xs) (length xs) x ≡ over area (xs ++ (x ∷ []))
-unfolding over
-over-next area xs x h =
-    rw (drop-cons area (length xs) 0, set-append-seam, length-append, append-assoc, add-one)
 
 -- ---- a sum of which one term changes
 
@@ -689,14 +608,3 @@ some-bit p m = rw add-one (either (some p m) (p m))
     either true false = refl
     either false true = refl
     either false false = refl
-
--- ---- an area that is written whole
-
-pub over-whole : (area xs : List ℕ) → length area ≡ length xs → over area xs ≡ xs
-unfolding over
-over-whole area xs h = rw (sym h, drop-length) (append-nil xs)
-
--- a part lent from the front, which comes back as xs, before what was not lent
-pub over-part : (area part xs : List ℕ) (m : ℕ) → part ≡ xs → length xs ≡ m → part ++ drop m area ≡ over area xs
-unfolding over
-over-part area part xs m e h = rw (e, sym h)

@@ -1,21 +1,17 @@
--- Laws of the list of direct steps: it lists just them, passes the refusals that the list it came from passes, and says what that list says.
+-- Laws of the list of direct steps: it lists just them, passes refusals 4 and 5, has no more pairs than the list it came from, and says what that list says.
 -- Assumes nothing.
-use Prim.Native.Nat.{ℕ, _%_, _≤_, _<_}
+use Prim.Native.Nat.{ℕ, _≤_, _<_}
 use mathlib.Core.Path.{_≡_}
 use mathlib.Core.Bool.{true}
 use mathlib.Core.List.{List}
 use native.Mathlib.Omega.{arith}
-use lib.ListN.{length}
-use lib.Dec.{leb, eqb}
-use borrow.Author.Tests.{eq-eqb, leb-true, le-leb}
-use Rattle.rules.specs.Limits.{maxNeeds}
 use Rattle.rules.specs.Ranges.{pairsIn}
-use Rattle.rules.specs.Listing.{Listed, pairs, upper, lower, countedNeeds}
+use Rattle.rules.specs.Listing.{Listed, pairs, upper, lower}
 use Rattle.rules.specs.Order.{DirectStep, needs, step, directSteps}
-use Rattle.rules.proofs.Verdicts.{and-both, both-and, same-test}
+use Rattle.rules.proofs.Verdicts.{same-test}
 use Rattle.rules.proofs.Paths.{path-flat, path-map}
-use Rattle.rules.proofs.Needs.{Pairs, pairs-most, listed-at, needs-path, path-needs, step-direct, direct-step, steps-listed, needs-steps, needs-in, steps-same}
-use Rattle.rules.proofs.Chains.{Even, Passes, in-even, in-listed, listed-passes, in-ordered, in-same}
+use Rattle.rules.proofs.Needs.{Pairs, pairs-most, listed-at, needs-path, path-needs, step-direct, direct-step, steps-listed, needs-steps, needs-in}
+use Rattle.rules.proofs.Chains.{Even, Passes, in-even, in-listed, listed-passes, in-ordered}
 
 pub steps-even : (l : List ℕ) (n : ℕ) → Even (directSteps l n)
 unfolding directSteps
@@ -57,23 +53,8 @@ module _ {n : ℕ} {l : List ℕ} (c : Pairs n l) where
           path-needs (directSteps l n) (steps-pairs .goes-down)
           (path-map (λ u v d. steps-in d) (needs-steps l (c .goes-down) (needs-path t)))
 
-  pub steps-steps : (u v : ℕ) → step (directSteps l n) u v ≡ step l u v
-  steps-steps = steps-same (directSteps l n) l steps-needs
-
   -- no more pairs than the list itself
   pub steps-few : pairs (directSteps l n) ≤ pairs l
   steps-few =
       pairs-most (directSteps l n) l (steps-pairs .ascends) (c .ascends)
       (λ i q. steps-listed (listed-steps (listed-at (directSteps l n) i q)))
-
-  -- so refusal 1 passes where it did
-  pub steps-counted : countedNeeds l ≡ true → countedNeeds (directSteps l n) ≡ true
-  unfolding countedNeeds
-  steps-counted h =
-      let few : pairs l ≤ maxNeeds = leb-true (pairs l) maxNeeds (and-both (eqb (length l % 2) 0) (leb (pairs l) maxNeeds) h .1) in
-      both-and (eq-eqb _ _ (steps-even l n)) (le-leb (pairs (directSteps l n)) maxNeeds (omega (arith, steps-few)))
-
--- lists with the same direct steps have the same list of them
-pub steps-unique : (n : ℕ) (l m : List ℕ) → ((u v : ℕ) → step l u v ≡ step m u v) → directSteps l n ≡ directSteps m n
-unfolding directSteps
-steps-unique n l m h = in-same (step l) (step m) n n (λ u v a b c d. h u v)

@@ -1,22 +1,22 @@
 -- Tracks and positions: a unit of a track is told by its position, the unit before it stands one position lower, and the lengths of all
 -- tracks add up to the units. Assumes nothing.
-use Prim.Native.Nat.{ℕ, zero, suc, _+_, _-_, _≤_, _<_, max, zero-le}
-use mathlib.Core.Path.{_≡_, refl, sym, ap, _∙_, subst}
-use mathlib.Core.Bool.{Bool, true, false, cond, _&&_}
+use Prim.Native.Nat.{ℕ, zero, suc, _+_, _-_, _≤_, _<_, zero-le}
+use mathlib.Core.Path.{_≡_, refl, sym, ap, _∙_}
+use mathlib.Core.Bool.{true, false, cond, _&&_}
 use mathlib.Core.List.{List}
 use mathlib.Core.Logic.{_⊎_, inl, inr}
 use native.Mathlib.Omega.{arith}
 use native.Mathlib.Numerals.{add-one}
-use native.Mathlib.Decide.{decLt, decLe, ℕ-discrete}
+use native.Mathlib.Decide.{decLt}
 use lib.ListN.{length, getD}
-use lib.Dec.{leb, ltb, eqb}
-use borrow.Author.Tests.{eq-eqb, ne-eqb, eqb-true, eqb-false}
-use Rattle.rules.specs.Ranges.{sum, bit1, count, greatest}
+use lib.Dec.{eqb}
+use borrow.Author.Tests.{eq-eqb, ne-eqb, eqb-true}
+use Rattle.rules.specs.Ranges.{sum, bit1, count}
 use Rattle.rules.specs.Listing.{track, inTrack, size, position}
 use Rattle.rules.specs.Order.{unitBefore}
 use Rattle.rules.specs.Questions.{unitAt}
-use Rattle.rules.proofs.Ranges.{true-or-false, not-both, sum-same, sum-suc, sum-plus, sum-zero, count-none, count-next, count-suc, count-le, count-up, count-past, count-find, greatest-is, greatest-zero, greatest-bound, greatest-met}
-use Rattle.rules.proofs.Verdicts.{and-both, both-and, and-no, no-and}
+use Rattle.rules.proofs.Ranges.{true-or-false, sum-same, sum-suc, sum-plus, sum-zero, count-none, count-next, count-le, count-up, count-past, count-find, greatest-is, greatest-zero}
+use Rattle.rules.proofs.Verdicts.{and-both}
 
 -- ---- how many of the first units are in a track
 

@@ -1,28 +1,25 @@
--- A whole index, built or not: the seven conditions as facts, low and high at each position, and kinds 10 to 15 by the few units that can answer.
--- The 1s of vector p,q are the positions of p and its 0s those of q, so each low of p in q is a high of q in p read the other way; the rest
--- is the order of numbers. Assumes nothing.
-use Prim.Native.Nat.{ℕ, zero, suc, _+_, _-_, _*_, _≤_, _<_}
+-- A whole index, built or not: the seven conditions as facts, low and high of each unit, and kinds 10 to 15 by the few units that can answer.
+-- Of the words only that each vector has its ones is used (Vectors); the rest is the order of numbers. Assumes nothing.
+use Prim.Native.Nat.{ℕ, suc, _+_, _-_, _*_, _≤_, _<_}
 use mathlib.Core.Path.{_≡_, refl, sym, ap, _∙_}
 use mathlib.Core.Bool.{Bool, true, false, cond, not, _&&_}
 use mathlib.Core.List.{List, _∷_}
 use native.Mathlib.Omega.{arith}
-use native.Mathlib.Numerals.{add-one}
 use native.Mathlib.Decide.{decLt, ℕ-discrete}
 use lib.ListN.{length, getD}
 use lib.Dec.{leb, ltb, eqb}
 use borrow.Author.Tests.{lt-ltb, le-ltb, ltb-true, le-leb, lt-leb, leb-true, eq-eqb, ne-eqb, eqb-true}
-use Rattle.rules.specs.Ranges.{sum, bit1, every}
+use Rattle.rules.specs.Ranges.{sum, every}
 use Rattle.rules.specs.Limits.{maxUnits, maxTracks}
 use Rattle.rules.specs.Listing.{track, size, position, within}
-use Rattle.rules.specs.Layout.{vectorBits, offset, roomBits, wordCount}
-use Rattle.rules.specs.Bits.{bit, onesBefore, rank, placeOfOne, placeOfZero}
-use Rattle.rules.specs.Index.{Index, sizes, vectorOf, vector, lowAt, highAt, lowIn, highIn, inRange, tracksFit, lengthsTrue, areasReach, spareClear, directoryTrue, vectorsTrue, conditions, firstFailing, fault, whole}
+use Rattle.rules.specs.Layout.{vectorBits, roomBits, wordCount}
+use Rattle.rules.specs.Bits.{bit, onesBefore}
+use Rattle.rules.specs.Index.{Index, sizes, vector, lowAt, lowIn, highIn, inRange, tracksFit, lengthsTrue, areasReach, spareClear, directoryTrue, vectorsTrue, conditions, firstFailing, fault, whole}
 use Rattle.rules.specs.Questions.{kind10By, kind11By, kind10, kind11}
-use Rattle.rules.proofs.Ranges.{sum-none, sum-suc, sum-same, every-all, every-one, every-same}
+use Rattle.rules.proofs.Ranges.{sum-none, sum-same, every-all, every-one, every-same}
 use Rattle.rules.proofs.Verdicts.{and-both, both-and, and-no, same-test, within-is, is-within}
-use Rattle.rules.proofs.Bits.{bit-le, rank-le, rank-add}
-use Rattle.rules.proofs.Places.{one-place-low, zero-place-low, one-place-rises, places-cross, places-cross-back, places-by-rank, places-by-rank-back}
-use Rattle.rules.proofs.Layouts.{offset-start, offset-next, offset-row, vector-own, vector-other, room-is, onesIn, ones-to}
+use Rattle.rules.proofs.Layouts.{vector-own, vector-other}
+use Rattle.rules.proofs.Vectors.{OnesTrue, low-at-own, high-at-own, low-at-most, high-at-most, low-high}
 use Rattle.rules.proofs.Tracks.{position-pos, position-size, sizes-all, UnitAt, unit-found}
 
 -- ---- the seven conditions as facts
@@ -39,7 +36,7 @@ pub record Whole (x : Index) : Type 0 where
   pub directory-reach : wordCount (sizes x) (x .head .k) ≤ length (x .directory)
   pub spare : (y : ℕ) → roomBits (sizes x) (x .head .k) ≤ y → y < 64 * wordCount (sizes x) (x .head .k) → bit (x .words) y ≡ 0
   pub true-there : (j : ℕ) → j < wordCount (sizes x) (x .head .k) → getD (x .directory) j 0 ≡ onesBefore (x .words) j
-  pub ones : (p q : ℕ) → p < x .head .k → q < x .head .k → (p ≡ q → ⊥) → sum (vector x p q) (sizes x p + sizes x q) ≡ sizes x p
+  pub ones : OnesTrue (sizes x) (x .head .k) (x .words)
 
 -- the first condition that fails has a number above 0, so 0 says that this one holds, and so do the others
 failing-none : (number : ℕ) (b : Bool) (holds : List Bool) → 1 ≤ number → firstFailing number (b ∷ holds) ≡ 0 → (b ≡ true) × (firstFailing (suc number) holds ≡ 0)
@@ -106,7 +103,7 @@ module _ (x : Index) where
     directory-reach = leb-true _ _ (areas .1);
     spare = spare;
     true-there = λ j l. eqb-true _ _ (every-one (λ j. eqb (getD (x .directory) j 0) (onesBefore (x .words) j)) (wordCount (sizes x) (x .head .k)) j (t .sixth) l);
-    ones = ones;
+    ones = record { each = ones };
   }
     where
       ranges : (within 1 maxUnits (x .head .n) ≡ true) × (within 1 maxTracks (x .head .k) ≡ true)
@@ -152,174 +149,13 @@ module _ (x : Index) where
 
       counts : (p q : ℕ) → p < x .head .k → q < x .head .k → Dec (p ≡ q) → sum (vector x p q) (vectorBits (sizes x) p q) ≡ cond (eqb p q) 0 (sizes x p)
       counts p q l h (yes e) = rw (eq-eqb p q e, e, vector-own (sizes x) q) (sum-none (vector x q q))
-      counts p q l h (no n) = rw (ne-eqb p q n, vector-other (sizes x) p q n) (good .ones p q l h n)
+      counts p q l h (no n) = rw (ne-eqb p q n, vector-other (sizes x) p q n) (good .ones .each p q l h n)
 
   pub whole-is : whole x ≡ true → Whole x
   whole-is h = passed-whole (passed (fault-zero h))
 
   pub is-whole : Whole x → whole x ≡ true
   is-whole good = zero-fault (all-passed (whole-passed good))
-
--- ---- low and high at a position
-
-module _ (s : ℕ → ℕ) (k : ℕ) (ws : List ℕ) (p q : ℕ) where
-  pub low-at-own : (i : ℕ) → p ≡ q → lowAt s k ws p i q ≡ i - 1
-  unfolding lowAt
-  low-at-own i e = rw (eq-eqb p q e)
-
-  pub high-at-own : (i : ℕ) → p ≡ q → highAt s k ws p i q ≡ i + 1
-  unfolding highAt
-  high-at-own i e = rw (eq-eqb p q e)
-
-  pub low-at-other : (i : ℕ) → (p ≡ q → ⊥) → lowAt s k ws p i q ≡ placeOfOne (vectorOf s k ws p q) (s p + s q) i - i
-  unfolding lowAt
-  low-at-other i n = rw (ne-eqb p q n, vector-other s p q n)
-
-  pub high-at-other : (j : ℕ) → (q ≡ p → ⊥) → highAt s k ws q j p ≡ placeOfZero (vectorOf s k ws p q) (s p + s q) j - j + 1
-  unfolding highAt
-  high-at-other j n = rw (ne-eqb q p n, vector-other s p q (λ e. n (sym e)))
-
-  pub vector-le : (y : ℕ) → vectorOf s k ws p q y ≤ 1
-  unfolding vectorOf
-  vector-le y = bit-le ws (offset s k p q + y)
-
-  pub vector-rank : (y : ℕ) → rank ws (offset s k p q + y) ≡ rank ws (offset s k p q) + sum (vectorOf s k ws p q) y
-  unfolding vectorOf
-  vector-rank y = rank-add ws (offset s k p q) y
-
--- ---- the ones before a vector, where each vector p,q has as many as p has units
-
-module _ (s : ℕ → ℕ) (k : ℕ) (ws : List ℕ) where
-  -- the ones of vector p,q
-  abbrev pub vectorOnes : ℕ → ℕ → ℕ
-  vectorOnes p q = sum (vectorOf s k ws p q) (vectorBits s p q)
-
-  -- the ones up to the end of a vector are those up to its start, and its own
-  pub rank-vector : (p q : ℕ) → rank ws (offset s k p (q + 1)) ≡ rank ws (offset s k p q) + vectorOnes p q
-  rank-vector p q = rw (offset-next s k p q, room-is s p q) (vector-rank s k ws p q (vectorBits s p q))
-
-  -- along the vectors of p
-  pub rank-along : (p : ℕ) → ((q : ℕ) → q < k → vectorOnes p q ≡ onesIn s p q)
-      → (q : ℕ) → q ≤ k → rank ws (offset s k p q) ≡ rank ws (offset s k p 0) + sum (onesIn s p) q
-  rank-along p t zero h = omega (arith, sum-none (onesIn s p))
-  rank-along p t (suc q) h =
-      let e : q + 1 ≡ suc q = add-one q in
-      let f : rank ws (offset s k p (q + 1)) ≡ rank ws (offset s k p (suc q)) = ap (λ (x : ℕ). rank ws (offset s k p x)) e in
-      omega (arith, rank-vector p q, t q (omega arith), rank-along p t q (omega arith), sum-suc (onesIn s p) q)
-
-  -- down the rows
-  pub rank-down : (each : (p q : ℕ) → p < k → q < k → vectorOnes p q ≡ onesIn s p q)
-      → (p : ℕ) → p ≤ k → rank ws (offset s k p 0) ≡ sum (λ p′. sum (onesIn s p′) k) p
-  rank-down each zero l =
-      omega (arith, ap (rank ws) (offset-start s k), rank-le ws 0, sum-none (λ p′. sum (onesIn s p′) k))
-  rank-down each (suc p) l =
-      let e : p + 1 ≡ suc p = add-one p in
-      let f : rank ws (offset s k (p + 1) 0) ≡ rank ws (offset s k (suc p) 0) = ap (λ (x : ℕ). rank ws (offset s k x 0)) e in
-      omega (
-        arith,
-        ap (rank ws) (offset-row s k p),
-        rank-along p (λ q h. each p q (omega arith) h) k (omega arith),
-        rank-down each p (omega arith),
-        sum-suc (λ p′. sum (onesIn s p′) k) p,
-      )
-
-  pub rank-at : (each : (p q : ℕ) → p < k → q < k → vectorOnes p q ≡ onesIn s p q)
-      → (p q : ℕ) → p < k → q ≤ k → rank ws (offset s k p q) ≡ (k - 1) * sum s p + (q - bit1 (ltb p q)) * s p
-  rank-at each p q l h =
-      omega (arith, rank-along p (λ q h. each p q l h) q h, rank-down each p (omega arith), ones-to s k p q (omega arith))
-
-module _ (x : Index) (good : Whole x) (p q : ℕ) (row : p < x .head .k) (column : q < x .head .k) where
-  -- vector p,q has a 1 for each position of p and a 0 for each position of q
-  in-ones : (p ≡ q → ⊥) → {i : ℕ} → i ≤ sizes x p → i ≤ sum (vector x p q) (sizes x p + sizes x q)
-  in-ones n l = omega (arith, good .ones p q row column n)
-
-  in-zeros : (p ≡ q → ⊥) → {j : ℕ} → j ≤ sizes x q → j ≤ sizes x p + sizes x q - sum (vector x p q) (sizes x p + sizes x q)
-  in-zeros n l = omega (arith, good .ones p q row column n)
-
-module _ (x : Index) (good : Whole x) (p q : ℕ) (row : p < x .head .k) (column : q < x .head .k) where
-  pub low-at-most : (i : ℕ) → 1 ≤ i → i ≤ sizes x p → lowAt (sizes x) (x .head .k) (x .words) p i q ≤ sizes x q
-  low-at-most i from to = go (ℕ-discrete p q)
-    where
-      go : Dec (p ≡ q) → lowAt (sizes x) (x .head .k) (x .words) p i q ≤ sizes x q
-      go (yes e) = rw (low-at-own (sizes x) (x .head .k) (x .words) p q i e) (omega (arith, ap (sizes x) e))
-      go (no n) =
-          rw (low-at-other (sizes x) (x .head .k) (x .words) p q i n)
-          (omega (arith, good .ones p q row column n, one-place-low (vector x p q) (vector-le (sizes x) (x .head .k) (x .words) p q) _ i from (in-ones x good p q row column n to) .1))
-
-  pub high-at-most : (i : ℕ) → 1 ≤ i → i ≤ sizes x p
-      → (1 ≤ highAt (sizes x) (x .head .k) (x .words) p i q) × (highAt (sizes x) (x .head .k) (x .words) p i q ≤ sizes x q + 1)
-  high-at-most i from to = go (ℕ-discrete p q)
-    where
-      go : Dec (p ≡ q) → (1 ≤ highAt (sizes x) (x .head .k) (x .words) p i q) × (highAt (sizes x) (x .head .k) (x .words) p i q ≤ sizes x q + 1)
-      go (yes e) = rw (high-at-own (sizes x) (x .head .k) (x .words) p q i e) (omega (arith, ap (sizes x) e))
-      go (no n) =
-          let m : q ≡ p → ⊥ = λ e. n (sym e) in
-          rw (high-at-other (sizes x) (x .head .k) (x .words) q p i n)
-          (omega (arith, good .ones q p column row m, zero-place-low (vector x q p) (vector-le (sizes x) (x .head .k) (x .words) q p) _ i from (in-zeros x good q p column row m to) .1))
-
-  -- low rises along a track
-  pub low-at-rises : (i i′ : ℕ) → 1 ≤ i → i < i′ → i′ ≤ sizes x p
-      → lowAt (sizes x) (x .head .k) (x .words) p i q ≤ lowAt (sizes x) (x .head .k) (x .words) p i′ q
-  low-at-rises i i′ from up to = go (ℕ-discrete p q)
-    where
-      go : Dec (p ≡ q) → lowAt (sizes x) (x .head .k) (x .words) p i q ≤ lowAt (sizes x) (x .head .k) (x .words) p i′ q
-      go (yes e) = rw (low-at-own (sizes x) (x .head .k) (x .words) p q i e, low-at-own (sizes x) (x .head .k) (x .words) p q i′ e) (omega arith)
-      go (no n) =
-          rw (low-at-other (sizes x) (x .head .k) (x .words) p q i n, low-at-other (sizes x) (x .head .k) (x .words) p q i′ n)
-          (one-place-rises (vector x p q) (vector-le (sizes x) (x .head .k) (x .words) p q) _ i i′ from up (in-ones x good p q row column n to))
-
-  -- position i of p reaches down to j of q exactly when position j of q is reached from i of p on
-  pub low-to-high : (i j : ℕ) → 1 ≤ i → i ≤ sizes x p → 1 ≤ j → j ≤ sizes x q
-      → j ≤ lowAt (sizes x) (x .head .k) (x .words) p i q → highAt (sizes x) (x .head .k) (x .words) q j p ≤ i
-  low-to-high i j i1 ip j1 jq = go (ℕ-discrete p q)
-    where
-      go : Dec (p ≡ q) → j ≤ lowAt (sizes x) (x .head .k) (x .words) p i q → highAt (sizes x) (x .head .k) (x .words) q j p ≤ i
-      go (yes e) = rw (low-at-own (sizes x) (x .head .k) (x .words) p q i e, high-at-own (sizes x) (x .head .k) (x .words) q p j (sym e)) (λ h. omega arith)
-      go (no n) =
-          rw (low-at-other (sizes x) (x .head .k) (x .words) p q i n, high-at-other (sizes x) (x .head .k) (x .words) p q j (λ e. n (sym e)))
-          (places-cross (vector x p q) (vector-le (sizes x) (x .head .k) (x .words) p q) _ i j i1 (in-ones x good p q row column n ip) j1 (in-zeros x good p q row column n jq))
-
-  pub high-to-low : (i j : ℕ) → 1 ≤ i → i ≤ sizes x p → 1 ≤ j → j ≤ sizes x q
-      → highAt (sizes x) (x .head .k) (x .words) q j p ≤ i → j ≤ lowAt (sizes x) (x .head .k) (x .words) p i q
-  high-to-low i j i1 ip j1 jq = go (ℕ-discrete p q)
-    where
-      go : Dec (p ≡ q) → highAt (sizes x) (x .head .k) (x .words) q j p ≤ i → j ≤ lowAt (sizes x) (x .head .k) (x .words) p i q
-      go (yes e) = rw (low-at-own (sizes x) (x .head .k) (x .words) p q i e, high-at-own (sizes x) (x .head .k) (x .words) q p j (sym e)) (λ h. omega arith)
-      go (no n) =
-          rw (low-at-other (sizes x) (x .head .k) (x .words) p q i n, high-at-other (sizes x) (x .head .k) (x .words) p q j (λ e. n (sym e)))
-          (places-cross-back (vector x p q) (vector-le (sizes x) (x .head .k) (x .words) p q) _ i j i1 (in-ones x good p q row column n ip) j1 (in-zeros x good p q row column n jq))
-
-  pub low-high : (i j : ℕ) → 1 ≤ i → i ≤ sizes x p → 1 ≤ j → j ≤ sizes x q
-      → leb j (lowAt (sizes x) (x .head .k) (x .words) p i q) ≡ leb (highAt (sizes x) (x .head .k) (x .words) q j p) i
-  low-high i j i1 ip j1 jq =
-      same-test _ _
-      (λ t. le-leb _ _ (low-to-high i j i1 ip j1 jq (leb-true _ _ t)))
-      (λ t. le-leb _ _ (high-to-low i j i1 ip j1 jq (leb-true _ _ t)))
-
-  -- one rank tells whether position i of p reaches down to j of q
-  pub low-by-rank : (i j : ℕ) → 1 ≤ i → i ≤ sizes x p → (p ≡ q → ⊥)
-      → leb j (lowAt (sizes x) (x .head .k) (x .words) p i q)
-      ≡ ltb (rank (x .words) (offset (sizes x) (x .head .k) p q + i + j - 1)) (rank (x .words) (offset (sizes x) (x .head .k) p q) + i)
-  low-by-rank i j i1 ip n = same-test _ _ (λ t. lt-ltb _ _ (to (leb-true _ _ t))) (λ t. le-leb _ _ (from (ltb-true _ _ t)))
-    where
-      bits : (y : ℕ) → vector x p q y ≤ 1
-      bits = vector-le (sizes x) (x .head .k) (x .words) p q
-
-      place : offset (sizes x) (x .head .k) p q + i + j - 1 ≡ offset (sizes x) (x .head .k) p q + (i + j - 1)
-      place = omega arith
-
-      at-rank : rank (x .words) (offset (sizes x) (x .head .k) p q + (i + j - 1)) ≡ rank (x .words) (offset (sizes x) (x .head .k) p q) + sum (vector x p q) (i + j - 1)
-      at-rank = vector-rank (sizes x) (x .head .k) (x .words) p q (i + j - 1)
-
-      to : j ≤ lowAt (sizes x) (x .head .k) (x .words) p i q
-          → rank (x .words) (offset (sizes x) (x .head .k) p q + i + j - 1) < rank (x .words) (offset (sizes x) (x .head .k) p q) + i
-      to = rw (low-at-other (sizes x) (x .head .k) (x .words) p q i n, place)
-          (λ h. omega (arith, at-rank, places-by-rank (vector x p q) bits _ i j i1 (in-ones x good p q row column n ip) h))
-
-      from : rank (x .words) (offset (sizes x) (x .head .k) p q + i + j - 1) < rank (x .words) (offset (sizes x) (x .head .k) p q) + i
-          → j ≤ lowAt (sizes x) (x .head .k) (x .words) p i q
-      from = rw (low-at-other (sizes x) (x .head .k) (x .words) p q i n, place)
-          (λ h. places-by-rank-back (vector x p q) bits _ i j i1 (in-ones x good p q row column n ip) (omega (arith, at-rank)))
 
 -- ---- units
 
@@ -363,19 +199,19 @@ module _ (x : Index) (good : Whole x) (u : ℕ) (u1 : 1 ≤ u) (un : u ≤ x .he
   pub low-in-most : (q : ℕ) → q < x .head .k → lowIn x u q ≤ sizes x q
   low-in-most q h =
       let i = unit-position x good u u1 un in
-      low-at-most x good (track (x .tracks) u) q (unit-track x good u u1 un) h (position (x .tracks) u) (i .0) (i .1)
+      low-at-most (good .ones) (track (x .tracks) u) q (unit-track x good u u1 un) h (position (x .tracks) u) (i .0) (i .1)
 
   pub high-in-most : (q : ℕ) → q < x .head .k → (1 ≤ highIn x u q) × (highIn x u q ≤ sizes x q + 1)
   high-in-most q h =
       let i = unit-position x good u u1 un in
-      high-at-most x good (track (x .tracks) u) q (unit-track x good u u1 un) h (position (x .tracks) u) (i .0) (i .1)
+      high-at-most (good .ones) q (track (x .tracks) u) h (unit-track x good u u1 un) (position (x .tracks) u) (i .0) (i .1)
 
   -- position i of track p reaches down to u exactly from high(u, p) on
   pub reaches-from-high : (p i : ℕ) → p < x .head .k → 1 ≤ i → i ≤ sizes x p
       → leb (position (x .tracks) u) (lowAt (sizes x) (x .head .k) (x .words) p i (track (x .tracks) u)) ≡ leb (highIn x u p) i
   reaches-from-high p i row i1 ip =
       let j = unit-position x good u u1 un in
-      low-high x good p (track (x .tracks) u) row (unit-track x good u u1 un) i (position (x .tracks) u) i1 ip (j .0) (j .1)
+      low-high (good .ones) p (track (x .tracks) u) row (unit-track x good u u1 un) i (position (x .tracks) u) i1 ip (j .0) (j .1)
 
 -- kinds 10 and 11 as facts
 module _ (x : Index) (u v : ℕ) where

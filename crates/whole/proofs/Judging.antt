@@ -17,9 +17,11 @@ use Rattle.rules.specs.Index.{Index, lensOf, sizes, inRange, tracksFit, lengths
 use Rattle.rules.proofs.Ranges.{sum-same, first-before, first-met, every-all, every-one, every-not}
 use Rattle.rules.proofs.Verdicts.{and-both, both-and, no-and, and-no, is-within, not-within}
 use Rattle.rules.proofs.Tracks.{sizes-all}
+use Rattle.words.specs.Words.{TrueTo}
+use Rattle.layout.specs.Lengths.{Lengths}
 use Rattle.layout.specs.Starts.{rowStarts}
 use Rattle.whole.specs.declared.Judged.{Judged}
-use Rattle.whole.specs.Judged.{judgedBy, judged, areasFault, Lengths, Areas}
+use Rattle.whole.specs.Judged.{judgedBy, judged, areasFault}
 use Rattle.whole.proofs.Lengths.{lengthTrue}
 
 -- ---- what is judged
@@ -113,9 +115,9 @@ pub lengths-known : (lens : List ℕ) (k : ℕ) (tracks : List ℕ) → 1 ≤ k 
 unfolding lengthsTrue
 lengths-known lens k tracks some few short below t = record {
   some-track = some;
-  few = few;
-  units = omega (arith, sum-same (lensOf lens) (size tracks) k (λ q l. eqb-true _ _ (at q l .0)), sizes-all tracks k below);
-  each = λ q l. leb-true 1 (lensOf lens q) (rw (lt-ltb q k l) at (at q l .1));
+  few-tracks = few;
+  few-units = omega (arith, sum-same (lensOf lens) (size tracks) k (λ q l. eqb-true _ _ (at q l .0)), sizes-all tracks k below);
+  used = λ q l. leb-true 1 (lensOf lens q) (rw (lt-ltb q k l) at (at q l .1));
 }
   where
     at : (q : ℕ) → q < k → (eqb (lensOf lens q) (size tracks q) ≡ true) × (cond (ltb q k) (leb 1 (lensOf lens q)) (eqb (lensOf lens q) 0) ≡ true)
@@ -173,10 +175,10 @@ module _ (s : ℕ → ℕ) (k : ℕ) (words directory : List ℕ) (bits : ℕ) (
   unfolding directoryTrue
   directory-is = rw (sym count-is)
 
-  pub areas-known : (bits + 63) / 64 ≤ length words → (bits + 63) / 64 ≤ length directory → directoryTrue s k words directory ≡ true → Areas s k words directory
+  pub areas-known : (bits + 63) / 64 ≤ length words → (bits + 63) / 64 ≤ length directory → directoryTrue s k words directory ≡ true → TrueTo words directory (wordCount s k)
   unfolding directoryTrue
-  areas-known l h t = record {
-    words-reach = omega (arith, count-is);
-    directory-reach = omega (arith, count-is);
-    true-there = λ j b. eqb-true _ _ (every-one (λ j. eqb (getD directory j 0) (onesBefore words j)) (wordCount s k) j t b);
+  areas-known l h t j b = record {
+    word = omega (arith, count-is);
+    entry = omega (arith, count-is);
+    true-there = eqb-true _ _ (every-one (λ j. eqb (getD directory j 0) (onesBefore words j)) (wordCount s k) j t b);
   }

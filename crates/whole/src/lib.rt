@@ -8,12 +8,14 @@ ghost use mathlib.Core.Bool.{cond};
 ghost use lib.ListN.{length, getD, replicate};
 ghost use lib.Dec.{eqb};
 ghost use Rattle.rules.specs.Ranges.{sum, every};
-ghost use Rattle.rules.specs.Layout.{offset, vectorBits};
+ghost use Rattle.rules.specs.Layout.{offset, vectorBits, wordCount};
 ghost use Rattle.rules.specs.Bits.{bit, onesBefore, rank};
 ghost use Rattle.rules.specs.Index.{index, lensOf, vectorOf, lengthsTrue, vectorsTrue};
 ghost use Rattle.rules.specs.Outcomes.{wholeVerdict};
+ghost use Rattle.words.specs.Words.{TrueTo};
+ghost use Rattle.layout.specs.Lengths.{Lengths};
 ghost use Rattle.layout.specs.Starts.{rowStarts};
-ghost use Rattle.whole.specs.Judged.{judged, judgedBy, areasFault, Lengths, Areas};
+ghost use Rattle.whole.specs.Judged.{judged, judgedBy, areasFault};
 
 // The head's lengths are the counts in the track list, at least 1 for each track below k and 0 beyond.
 fn lengths_true(lens: &[u16; 32], tracks: &[u16], k: usize) -> bool
@@ -72,7 +74,7 @@ fn row_true(
     before: usize,
 ) -> bool
     requires { ⌜ Lengths (lensOf (now lens)) k ⌝ }
-    requires { ⌜ Areas (lensOf (now lens)) k (now words) (now directory) ⌝ }
+    requires { ⌜ TrueTo (now words) (now directory) (wordCount (lensOf (now lens)) k) ⌝ }
     requires { ⌜ (p < k) × (start ≡ offset (lensOf (now lens)) k p 0) × (before ≡ rank (now words) start) ⌝ }
     ensures { λ r. ⌜ r ≡ every (λ q. eqb (sum (vectorOf (lensOf (now (lens .entry))) k (now (words .entry)) p q) (vectorBits (lensOf (now (lens .entry))) p q)) (cond (eqb p q) 0 (lensOf (now (lens .entry)) p))) k ⌝ }
 {
@@ -101,7 +103,7 @@ fn vectors_true(
     k: usize,
 ) -> bool
     requires { ⌜ Lengths (lensOf (now lens)) k ⌝ }
-    requires { ⌜ Areas (lensOf (now lens)) k (now words) (now directory) ⌝ }
+    requires { ⌜ TrueTo (now words) (now directory) (wordCount (lensOf (now lens)) k) ⌝ }
     requires { ⌜ now row ≡ rowStarts (lensOf (now lens)) k ⌝ }
     ensures { λ r. ⌜ r ≡ vectorsTrue (lensOf (now (lens .entry))) k (now (words .entry)) ⌝ }
 {

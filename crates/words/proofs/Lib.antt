@@ -1,7 +1,6 @@
 -- What the proofs of the functions share, and what callers may use.
 pub mod Operators
 pub mod WithBit
-pub mod Filling
 pub mod Ranks
 pub mod Halves
 pub mod Searches

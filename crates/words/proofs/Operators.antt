@@ -15,6 +15,10 @@ use Rattle.rules.proofs.Bits.{ones-digit}
 pub one-shl : (k : ℕ) → k < 64 → 1 * 2 ^ k % 2 ^ 64 ≡ 2 ^ k
 one-shl k h = shl-exact {a = 1} 1 k 64 (lit< tt) (omega arith) ∙ one-mul (2 ^ k)
 
+-- `w & 1`
+pub mask-one : (w : ℕ) → bitAnd w 1 ≡ w % 2
+mask-one w = and-mask w 1
+
 -- `w & ((1 << k) - 1)`
 pub mask-low : (w k : ℕ) → k < 64 → bitAnd w (1 * 2 ^ k % 2 ^ 64 - 1) ≡ w % 2 ^ k
 mask-low w k h = rw (one-shl k h) (and-mask w k)

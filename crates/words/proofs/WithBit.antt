@@ -137,11 +137,3 @@ bit-with-other ws x b y small ne = go (word-with ws x b (y / 64))
         → digit (getD (withBit ws x b) (y / 64) 0) (y % 64) ≡ digit (getD ws (y / 64) 0) (y % 64)
     go (inl e) = rw (e .1) (digit-with-other (getD ws (y / 64) 0) (x % 64) b small (y % 64) (λ r. ne (let q = e .0 in omega arith)))
     go (inr e) = rw e
-
-pub words-with : (ws : List ℕ) (x b : ℕ) → b ≤ 1 → Words ws → Words (withBit ws x b)
-words-with ws x b small h j = go (word-with ws x b j)
-  where
-    go : ((j ≡ x / 64) × (getD (withBit ws x b) j 0 ≡ withDigit (getD ws j 0) (x % 64) b)) ⊎ (getD (withBit ws x b) j 0 ≡ getD ws j 0)
-        → getD (withBit ws x b) j 0 < 2 ^ 64
-    go (inl e) = rw (e .1) (with-lt (getD ws j 0) (x % 64) b small (h j) (omega arith))
-    go (inr e) = rw e (h j)

@@ -26,6 +26,10 @@ pub record TrueAt (ws ds : List ℕ) (j : ℕ) : Type 0 where
   pub entry : j < length ds
   pub true-there : getD ds j 0 ≡ onesBefore ws j
 
+-- the directory is true at each of the first count words
+abbrev pub TrueTo : List ℕ → List ℕ → ℕ → Type 0
+TrueTo ws ds count = (j : ℕ) → j < count → TrueAt ws ds j
+
 -- the directory is true at each word that a vector of m bits from bit off on touches
 pub record Covers (ws ds : List ℕ) (off m : ℕ) : Type 0 where
   pub some-bits : 0 < m

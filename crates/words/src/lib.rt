@@ -14,7 +14,7 @@ pub fn read_bit(words: &[u64], x: usize) -> u64
     requires { ⌜ x / 64 < length (now words) ⌝ }
     ensures { λ r. ⌜ r ≡ bit (now (words .entry)) x ⌝ }
 {
-    (words[x / 64] >> (x % 64)) % 2
+    (words[x / 64] >> (x % 64)) & 1
 }
 
 // Bit x becomes 1; no other bit changes.

@@ -4,8 +4,8 @@ use native.Mathlib.Omega.{arith}
 use borrow.Author.Needs.{needs}
 use Rattle.rules.specs.Bits.{rank}
 use Rattle.rules.specs.Index.{lensOf, vectorOf}
-use Rattle.rules.proofs.Wholes.{high-at-own, high-at-other}
-use Rattle.bounds.proofs.Vectors.{Vector, length-few, vector-before, vector-covers, in-zeros, zero-low}
+use Rattle.rules.proofs.Vectors.{Vector, high-at-own, high-at-other, rank-before, in-zeros, zero-low}
+use Rattle.bounds.proofs.Vectors.{ones-true, length-few, vector-covers}
 use Rattle.bounds.proofs.high_at.Statement.{statement}
 use Rattle.bounds.proofs.high_at.Tie as tie
 
@@ -62,8 +62,8 @@ place-of-zero-requires c κs =
     let v = vector (start c) in (
       rw (c .wide2 .ensures .0, c .before .before .wide .ensures .0, start c .vector-start .ensures) (vector-covers (g .pre .0) v),
       (
-        c .before .before .before .before .vector-ones .ensures ∙ sym (ap (rank (g .args .words .now)) (start c .vector-start .ensures) ∙ vector-before (g .pre .0) v),
-        (g .pre .1 .0 .from, rw (c .wide2 .ensures .0, c .before .before .wide .ensures .0, start c .vector-start .ensures) (in-zeros (g .pre .0) v (g .pre .1 .0 .to))),
+        c .before .before .before .before .vector-ones .ensures ∙ sym (ap (rank (g .args .words .now)) (start c .vector-start .ensures) ∙ rank-before (ones-true (g .pre .0)) v),
+        (g .pre .1 .0 .from, rw (c .wide2 .ensures .0, c .before .before .wide .ensures .0, start c .vector-start .ensures) (in-zeros (ones-true (g .pre .0)) v (g .pre .1 .0 .to))),
       ),
     )
 
@@ -73,7 +73,7 @@ sub-result c =
     let w = c .before in
     let g = entry (start w) in
     rw (c .place-of-zero .ensures, w .wide2 .ensures .0, w .before .before .wide .ensures .0, start w .vector-start .ensures)
-    (zero-low (g .pre .0) (vector (start w)) (g .args .i) (g .pre .1 .0 .from) (g .pre .1 .0 .to) .0)
+    (zero-low (ones-true (g .pre .0)) (vector (start w)) (g .args .i) (g .pre .1 .0 .from) (g .pre .1 .0 .to) .0)
 
 add-result-2 : tie.Need-add-result-2
 add-result-2 c = search needs

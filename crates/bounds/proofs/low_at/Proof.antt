@@ -1,11 +1,10 @@
 -- `bounds::low_at`: low is read off the place of a 1 of vector p,q, and in its own track it is the position before. Assumes nothing.
 use mathlib.Core.Path.{sym, ap, _∙_}
-use native.Mathlib.Omega.{arith}
 use borrow.Author.Needs.{needs}
 use Rattle.rules.specs.Bits.{rank}
 use Rattle.rules.specs.Index.{lensOf, vectorOf}
-use Rattle.rules.proofs.Wholes.{low-at-own, low-at-other}
-use Rattle.bounds.proofs.Vectors.{Vector, vector-before, vector-covers, in-ones, one-low}
+use Rattle.rules.proofs.Vectors.{Vector, low-at-own, low-at-other, rank-before, in-ones, one-low}
+use Rattle.bounds.proofs.Vectors.{ones-true, vector-covers}
 use Rattle.bounds.proofs.low_at.Statement.{statement}
 use Rattle.bounds.proofs.low_at.Tie as tie
 
@@ -60,8 +59,8 @@ place-of-one-requires c κs =
     let v = vector (start c) in (
       rw (c .wide2 .ensures .0, c .before .before .wide .ensures .0, start c .vector-start .ensures) (vector-covers (g .pre .0) v),
       (
-        c .before .before .before .before .vector-ones .ensures ∙ sym (ap (rank (g .args .words .now)) (start c .vector-start .ensures) ∙ vector-before (g .pre .0) v),
-        (g .pre .1 .0 .from, rw (c .wide2 .ensures .0, c .before .before .wide .ensures .0, start c .vector-start .ensures) (in-ones (g .pre .0) v (g .pre .1 .0 .to))),
+        c .before .before .before .before .vector-ones .ensures ∙ sym (ap (rank (g .args .words .now)) (start c .vector-start .ensures) ∙ rank-before (ones-true (g .pre .0)) v),
+        (g .pre .1 .0 .from, rw (c .wide2 .ensures .0, c .before .before .wide .ensures .0, start c .vector-start .ensures) (in-ones (ones-true (g .pre .0)) v (g .pre .1 .0 .to))),
       ),
     )
 
@@ -71,7 +70,7 @@ sub-result-2 c =
     let w = c .before in
     let g = entry (start w) in
     rw (c .place-of-one .ensures, w .wide2 .ensures .0, w .before .before .wide .ensures .0, start w .vector-start .ensures)
-    (one-low (g .pre .0) (vector (start w)) (g .args .i) (g .pre .1 .0 .from) (g .pre .1 .0 .to) .0)
+    (one-low (ones-true (g .pre .0)) (vector (start w)) (g .args .i) (g .pre .1 .0 .from) (g .pre .1 .0 .to) .0)
 
 returns-2 : tie.Need-returns-2
 unfolding vectorOf

@@ -4,7 +4,8 @@ use mathlib.Core.Path.{_≡_, _∙_}
 use native.Mathlib.Omega.{arith}
 use Rattle.rules.specs.Index.{lensOf, lowAt}
 use Rattle.rules.proofs.Ranges.{tableTo, table-to-none, table-to-next}
-use Rattle.bounds.proofs.Vectors.{length-few, low-most}
+use Rattle.rules.proofs.Vectors.{low-at-most}
+use Rattle.bounds.proofs.Vectors.{ones-true, length-few}
 use borrow.Author.Needs.{needs}
 use Rattle.bounds.proofs.lows.Statement.{statement}
 use Rattle.bounds.proofs.lows.Tie as tie
@@ -26,7 +27,8 @@ cast-at c =
     let l = c .before .before in
     let g = l .before .before .before in
     let there = c .before .loop-test .taken in
-    omega (arith, c .low-at .ensures, low-most (g .pre .0) (l .loop .q) (g .pre .1) there, length-few (g .pre .0) (l .loop .q) there)
+    let at = g .pre .1 in
+    omega (arith, c .low-at .ensures, low-at-most (ones-true (g .pre .0)) (g .args .p) (l .loop .q) (at .in-track) there (g .args .i) (at .from) (at .to), length-few (g .pre .0) (l .loop .q) there)
 
 mul-at : tie.Need-mul-at Inv-loop μ-loop
 mul-at c = omega arith

@@ -12,8 +12,9 @@ use borrow.Author.Tests.{le-leb, lt-leb, lt-ltb}
 use Rattle.rules.specs.Ranges.{every, table}
 use Rattle.rules.specs.Index.{lensOf, lowAt}
 use Rattle.rules.proofs.Ranges.{getD-table}
-use Rattle.bounds.specs.Known.{Known, Standing, noneReaches}
-use Rattle.bounds.proofs.Vectors.{low-most}
+use Rattle.rules.proofs.Vectors.{low-at-most}
+use Rattle.bounds.specs.Known.{noneReaches}
+use Rattle.bounds.proofs.Vectors.{ones-true}
 use Rattle.bounds.proofs.Reaching.{never, never-next, never-not, present, reaching}
 use Rattle.bounds.proofs.none_between.Statement.{statement}
 use Rattle.bounds.proofs.none_between.Tie as tie
@@ -52,7 +53,7 @@ here c =
     let l = c .before .before in
     let a = entry l .args in
     c .low-at .ensures
-    ∙ sym (low-there (lensOf (a .lens .now)) (a .k) (a .words .now) (a .p) (a .i) (l .loop .t) (omega arith) (entry l .pre .0 .few-tracks))
+    ∙ sym (low-there (lensOf (a .lens .now)) (a .k) (a .words .now) (a .p) (a .i) (l .loop .t) (omega arith) (entry l .pre .0 .lengths .few-tracks))
 
 -- and its test, once it is a unit's, is whether that reaches
 there : (c : tie.After-reaches Inv-loop μ-loop) → c .reaches .result ≡ second (c .before .before .before .before) (c .before .before .before .before .loop .t)
@@ -75,7 +76,9 @@ reaches-requires c κs =
     let l = w .before .before in
     let g = entry l in
     let inside : l .loop .t < g .args .k = omega arith in
-    (g .pre .0, (record { in-track = inside; from = omega arith; to = rw (w .low-at .ensures) (low-most (g .pre .0) (l .loop .t) (g .pre .1 .0) inside) }, g .pre .1 .1))
+    let at = g .pre .1 .0 in
+    let low = low-at-most (ones-true (g .pre .0)) (g .args .p) (l .loop .t) (at .in-track) inside (g .args .i) (at .from) (at .to) in
+    (g .pre .0, (record { in-track = inside; from = omega arith; to = rw (w .low-at .ensures) low }, g .pre .1 .1))
 
 returns : tie.Need-returns Inv-loop μ-loop
 unfolding noneReaches

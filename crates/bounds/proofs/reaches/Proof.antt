@@ -8,7 +8,9 @@ use Rattle.rules.specs.Layout.{offset, wordCount}
 use Rattle.rules.specs.Bits.{rank}
 use Rattle.rules.specs.Index.{lensOf}
 use Rattle.rules.proofs.Bits.{rank-le}
-use Rattle.bounds.proofs.Vectors.{Vector, words-few, word-true, vector-before, vector-within, low-by-order, low-by-rank}
+use Rattle.rules.proofs.Layouts.{vector-within}
+use Rattle.rules.proofs.Vectors.{Vector, low-by-order, rank-before, low-by-rank}
+use Rattle.bounds.proofs.Vectors.{ones-true, words-few}
 use Rattle.bounds.proofs.reaches.Statement.{statement}
 use Rattle.bounds.proofs.reaches.Tie as tie
 
@@ -26,12 +28,14 @@ count c = wordCount (lensOf (entry c .args .lens .now)) (entry c .args .k)
 within : (c : tie.After-vector-start) → (c .vector-start .result + (entry c .args .i + entry c .args .j) ≤ 64 * count c) × (count c ≤ 992)
 within c =
     let g = entry c in
-    omega (arith, c .vector-start .ensures, vector-within (g .pre .0) (vector c), words-few (g .pre .0), g .pre .1 .0 .to, g .pre .1 .1 .to)
+    let v = vector c in
+    omega (arith, c .vector-start .ensures, vector-within (lensOf (g .args .lens .now)) (g .args .k) (g .args .p) (g .args .q) (v .here) (v .there) (v .other), words-few (g .pre .0), g .pre .1 .0 .to, g .pre .1 .1 .to)
 
 returns : tie.Need-returns
 returns c =
     let g = c .before .before .before in
-    sym (low-by-order (g .pre .0) (g .args .q) (g .args .j) (g .pre .1 .0) (c .if1 .taken))
+    let a = g .args in
+    sym (low-by-order (lensOf (a .lens .now)) (a .k) (a .words .now) (a .p) (a .q) (a .i) (a .j) (g .pre .1 .0 .from) (c .if1 .taken))
 
 vector-start-requires : tie.Need-vector-start-requires
 vector-start-requires c κs = search needs
@@ -49,13 +53,13 @@ sub-ones-before : tie.Need-sub-ones-before
 sub-ones-before c = search needs
 
 ones-before-requires : tie.Need-ones-before-requires
-ones-before-requires c κs = word-true (entry (c .before) .pre .0) _ (omega (arith, within (c .before)))
+ones-before-requires c κs = entry (c .before) .pre .0 .directory-true _ (omega (arith, within (c .before)))
 
 -- the ones before the vector, as the words have them
 before : (c : tie.After-vector-ones) → c .vector-ones .result ≡ rank (entry (c .before) .args .words .now) (c .before .vector-start .result)
 before c =
     let o = c .before in
-    c .vector-ones .ensures ∙ sym (ap (rank (entry o .args .words .now)) (o .vector-start .ensures) ∙ vector-before (entry o .pre .0) (vector o))
+    c .vector-ones .ensures ∙ sym (ap (rank (entry o .args .words .now)) (o .vector-start .ensures) ∙ rank-before (ones-true (entry o .pre .0)) (vector o))
 
 add-result : tie.Need-add-result
 add-result c =
@@ -71,9 +75,9 @@ returns-2 c =
     let at : c .ones-before .result ≡ rank (a .words .now) (off + a .i + a .j - 1) =
     c .ones-before .ensures ∙ ap (λ x. rank (a .words .now) (x + a .i + a .j - 1)) (o .vector-start .ensures) in
     let start : c .before .vector-ones .result ≡ rank (a .words .now) off =
-    c .before .vector-ones .ensures ∙ sym (vector-before (g .pre .0) (vector o)) in
+    c .before .vector-ones .ensures ∙ sym (rank-before (ones-true (g .pre .0)) (vector o)) in
     ap (λ x. ltb x (c .before .vector-ones .result + a .i)) at ∙ ap (λ x. ltb (rank (a .words .now) (off + a .i + a .j - 1)) (x + a .i)) start
-    ∙ sym (low-by-rank (g .pre .0) (a .j) (g .pre .1 .0) (vector o))
+    ∙ sym (low-by-rank (ones-true (g .pre .0)) (vector o) (a .i) (a .j) (g .pre .1 .0 .from) (g .pre .1 .0 .to))
 
 pub reaches-spec : {M : Type 1} → statement M
 reaches-spec =

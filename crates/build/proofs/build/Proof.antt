@@ -17,7 +17,7 @@ use Rattle.rules.specs.Listing.{Listing, listing, listingVerdict}
 use Rattle.rules.specs.Order.{unsound, soundVerdict}
 use Rattle.rules.specs.Index.{builtCount, builtWords, builtDirectory, builtWork}
 use Rattle.rules.specs.Outcomes.{roomVerdict}
-use Rattle.rules.proofs.Ranges.{over-part}
+use Rattle.rules.proofs.Overs.{over-part}
 use Rattle.rules.proofs.Verdicts.{refuse-at, refuse-end}
 use Rattle.rules.proofs.Accepted.{Accepted, listing-fine}
 use Rattle.rules.proofs.Builts.{length-words, length-directory, length-work}

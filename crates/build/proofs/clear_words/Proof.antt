@@ -4,8 +4,8 @@ use mathlib.Core.Path.{_≡_, ap, _∙_}
 use native.Mathlib.Omega.{arith}
 use lib.ListN.{length}
 use Rattle.rules.specs.Ranges.{table, over}
-use Rattle.rules.proofs.Ranges.{length-table, length-over, over-whole}
-use Rattle.words.proofs.Filling.{over-none, over-next}
+use Rattle.rules.proofs.Ranges.{length-table}
+use Rattle.rules.proofs.Overs.{length-over, over-whole, over-table-none, over-table-next}
 use Rattle.build.proofs.clear_words.Statement.{statement}
 use Rattle.build.proofs.clear_words.Tie as tie
 
@@ -22,7 +22,7 @@ long c =
     ∙ length-over (c .before .args .words .now) (table (λ j. 0) (c .loop .j)) (rw length-table (omega arith))
 
 loop-holds : tie.Need-loop-holds Inv-loop μ-loop
-loop-holds c = (omega arith, over-none _ _)
+loop-holds c = (omega arith, over-table-none _ _)
 
 mul-words : tie.Need-mul-words Inv-loop μ-loop
 mul-words c = omega (arith, long (c .before))
@@ -39,7 +39,7 @@ loop-less c = omega (arith, long (c .before))
 loop-again : tie.Need-loop-again Inv-loop μ-loop
 loop-again c =
     let l : c .before .loop .j ≤ length (c .before .before .args .words .now) = omega arith in
-    (omega (arith, long (c .before)), rw (c .before .loop .inv .1) (over-next (λ j. 0) _ _ (omega (arith, long (c .before)))))
+    (omega (arith, long (c .before)), rw (c .before .loop .inv .1) (over-table-next (λ j. 0) _ _ (omega (arith, long (c .before)))))
 
 same-length : tie.Need-same-length Inv-loop μ-loop
 same-length c = long (c .before)

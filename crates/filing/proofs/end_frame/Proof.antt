@@ -9,7 +9,7 @@ use lib.ListN.{take}
 use lib.Seq.{length-take-le}
 use lib.Dec.{eqb}
 use borrow.Author.Tests.{eqb-true, eqb-false, not-true, not-false}
-use Rattle.rules.proofs.Ranges.{over-part}
+use Rattle.rules.proofs.Overs.{over-part}
 use Rattle.stages.specs.Stages.{stageTable}
 use Rattle.stages.proofs.Lasts.{length-stages}
 use Rattle.filing.proofs.Ends.{end-misplaced, end-refused, built-room, build-pairs, took-end}

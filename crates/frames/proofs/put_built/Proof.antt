@@ -3,10 +3,9 @@
 use mathlib.Core.Path.{refl, ap, _∙_}
 use native.Mathlib.Omega.{arith}
 use lib.ListN.{length}
-use Rattle.rules.proofs.Ranges.{length-over}
+use Rattle.rules.proofs.Overs.{length-over, part-back-next}
 use Rattle.frames.specs.Printed.{hexOf, builtLine}
 use Rattle.frames.proofs.Lengths.{length-hex, length-built}
-use Rattle.frames.proofs.Overs.{line-back}
 use borrow.Author.Needs.{needs}
 use Rattle.frames.proofs.put_built.Statement.{statement}
 use Rattle.frames.proofs.put_built.Tie as tie
@@ -38,7 +37,7 @@ returns c =
     let bits = c .before .before .before .before .before .before .before .before .before .before .args .bits in
     let digits = length-hex 8 bits in (
       refl,
-      line-back _ _ (hexOf 8 bits) _ _ 6 14 10 (c .before .before .before .before .before .before .put-text .ensures) refl (c .before .before .put-hex .ensures) (omega arith) (omega arith),
+      part-back-next _ _ (hexOf 8 bits) _ _ 6 14 10 (c .before .before .before .before .before .before .put-text .ensures) refl (c .before .before .put-hex .ensures) (omega arith) (omega arith),
     )
 
 same-length : tie.Need-same-length

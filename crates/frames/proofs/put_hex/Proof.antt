@@ -6,7 +6,7 @@ use mathlib.Core.List.{_++_}
 use native.Mathlib.Omega.{arith}
 use lib.ListN.{length, take, drop, length-set}
 use Rattle.rules.specs.Ranges.{over}
-use Rattle.rules.proofs.Ranges.{length-over, getD-over}
+use Rattle.rules.proofs.Overs.{length-over, getD-over}
 use Rattle.frames.specs.Printed.{hexOf}
 use Rattle.frames.proofs.Lengths.{length-hex}
 use Rattle.frames.proofs.Digits.{hex-last, hex-before, hex-whole, back-none, back-next}

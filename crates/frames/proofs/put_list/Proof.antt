@@ -4,10 +4,9 @@ use Prim.Native.Nat.{_+_, _*_}
 use mathlib.Core.Path.{ap, _∙_}
 use native.Mathlib.Omega.{arith}
 use lib.ListN.{length}
-use Rattle.rules.proofs.Ranges.{length-over}
+use Rattle.rules.proofs.Overs.{length-over, part-back-next}
 use Rattle.frames.specs.Printed.{hexOf, unitsOf, listLine}
 use Rattle.frames.proofs.Lengths.{length-hex, length-units, length-list}
-use Rattle.frames.proofs.Overs.{line-back}
 use borrow.Author.Needs.{needs}
 use Rattle.frames.proofs.put_list.Statement.{statement}
 use Rattle.frames.proofs.put_list.Tie as tie
@@ -49,7 +48,7 @@ returns c =
     let digits = length-hex 4 (length us) in
     let units = length-units us in (
       omega arith,
-      line-back _ (hexOf 4 (length us)) (unitsOf us) _ _ 4 (4 + 5 * length us) 10 (c .before .before .before .before .before .before .put-hex .ensures) digits (c .before .before .put-units .ensures) (omega arith) (omega arith),
+      part-back-next _ (hexOf 4 (length us)) (unitsOf us) _ _ 4 (4 + 5 * length us) 10 (c .before .before .before .before .before .before .put-hex .ensures) digits (c .before .before .put-units .ensures) (omega arith) (omega arith),
     )
 
 same-length : tie.Need-same-length

@@ -4,7 +4,7 @@ use mathlib.Core.Path.{sym, _∙_}
 use native.Mathlib.Omega.{arith}
 use Rattle.frames.specs.Printed.{hexOf, numberLine}
 use Rattle.frames.proofs.Lengths.{length-hex, length-number, length-refused}
-use Rattle.frames.proofs.Overs.{over-put}
+use Rattle.rules.proofs.Overs.{over-next}
 use borrow.Author.Needs.{needs}
 use Rattle.frames.proofs.put_number.Statement.{statement}
 use Rattle.frames.proofs.put_number.Tie as tie
@@ -35,7 +35,7 @@ unfolding numberLine
 returns c =
     let x = c .before .before .before .before .before .answer .given .0 .0 in
     rw (c .before .before .before .before .before .answer .given .1)
-    (sym (length-number x), rw (c .before .before .put-hex .ensures) (over-put _ (hexOf 4 x) 4 10 (length-hex 4 x) (omega arith)))
+    (sym (length-number x), rw (c .before .before .put-hex .ensures) (over-next _ (hexOf 4 x) 4 10 (length-hex 4 x) (omega arith)))
 
 same-length-2 : tie.Need-same-length-2
 same-length-2 c = search needs

@@ -3,10 +3,9 @@
 use mathlib.Core.Path.{refl, ap, _∙_}
 use native.Mathlib.Omega.{arith}
 use lib.ListN.{length}
-use Rattle.rules.proofs.Ranges.{length-over}
+use Rattle.rules.proofs.Overs.{length-over, part-back-next}
 use Rattle.frames.specs.Printed.{hexOf, decimalOf, refusedLine}
 use Rattle.frames.proofs.Lengths.{length-hex, length-refused}
-use Rattle.frames.proofs.Overs.{line-back}
 use borrow.Author.Needs.{needs}
 use Rattle.frames.proofs.put_refused.Statement.{statement}
 use Rattle.frames.proofs.put_refused.Tie as tie
@@ -49,7 +48,7 @@ unfolding refusedLine decimalOf
 returns c =
     let digits = length-hex 8 (c .before .before .before .place .result) in (
       refl,
-      line-back _ _ (hexOf 8 (c .before .before .before .place .result)) _ _ 11 19 10 (c .before .before .before .before .before .before .before .put-text .ensures) refl (c .before .before .put-hex .ensures) (omega arith) (omega arith)
+      part-back-next _ _ (hexOf 8 (c .before .before .before .place .result)) _ _ 11 19 10 (c .before .before .before .before .before .before .before .put-text .ensures) refl (c .before .before .put-hex .ensures) (omega arith) (omega arith)
           ∙ rw (c .before .before .before .before .before .before .before .before .before .before .number .ensures, c .before .before .before .place .ensures),
     )
 

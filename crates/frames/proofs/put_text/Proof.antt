@@ -7,7 +7,7 @@ use native.Mathlib.Numerals.{add-one}
 use lib.ListN.{length, take, length-set}
 use lib.Seq.{length-take-le, take-length, take-suc}
 use Rattle.rules.specs.Ranges.{over}
-use Rattle.frames.proofs.Overs.{over-none, over-put}
+use Rattle.rules.proofs.Overs.{over-none, over-next}
 use Rattle.frames.proofs.put_text.Statement.{statement}
 use Rattle.frames.proofs.put_text.Tie as tie
 
@@ -40,7 +40,7 @@ loop-again c =
     let inv = c .before .before .loop .inv in (
       omega arith,
       rw length-set (omega arith),
-      rw (inv .2, add-one, take-suc text i 0 (omega arith)) (over-put area (take i text) i _ (length-take-le i text (omega arith)) (omega arith)),
+      rw (inv .2, add-one, take-suc text i 0 (omega arith)) (over-next area (take i text) i _ (length-take-le i text (omega arith)) (omega arith)),
     )
 
 same-length : tie.Need-same-length Inv-loop μ-loop

@@ -7,9 +7,8 @@ use native.Mathlib.Omega.{arith}
 use lib.ListN.{length, getD, set, take, length-append, length-take, length-drop, length-set}
 use lib.Seq.{length-take-le, take-length}
 use Rattle.rules.specs.Ranges.{over}
-use Rattle.rules.proofs.Ranges.{length-over}
+use Rattle.rules.proofs.Overs.{length-over, over-none, part-back}
 use Rattle.frames.specs.Printed.{unitsOf, hexOf}
-use Rattle.frames.proofs.Overs.{over-none, part-back}
 use Rattle.frames.proofs.Lengths.{length-units}
 use Rattle.frames.proofs.Digits.{units-none, units-next, units-space, length-before}
 use Rattle.frames.proofs.put_units.Statement.{statement}

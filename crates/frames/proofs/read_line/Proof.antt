@@ -9,7 +9,7 @@ use lib.ListN.{getD, drop}
 use lib.Dec.{eqb}
 use borrow.Author.Tests.{ltb-true, ltb-false, not-true, not-false, eqb-true, eqb-false}
 use Rattle.frames.specs.Lines.{spelled, numbersOf, withNumbers, lineOf}
-use Rattle.frames.proofs.Overs.{rest-is}
+use Rattle.rules.proofs.Overs.{rest-is}
 use Rattle.frames.proofs.Frames.{kind-spelled, digits-not, line-short, line-unfed, line-no-kind, line-kind}
 use borrow.Author.Needs.{needs}
 use Rattle.frames.proofs.read_line.Statement.{statement}

@@ -6,7 +6,7 @@ use native.Mathlib.Omega.{arith}
 use lib.ListN.{drop}
 use borrow.Author.Tests.{ltb-true, ltb-false}
 use Rattle.frames.specs.Lines.{fourOf}
-use Rattle.frames.proofs.Overs.{rest-is}
+use Rattle.rules.proofs.Overs.{rest-is}
 use Rattle.frames.proofs.Frames.{numbers-two, numbers-none}
 use borrow.Author.Needs.{needs}
 use Rattle.frames.proofs.read_numbers.Statement.{statement}

@@ -10,9 +10,8 @@ use lib.ListN.{getD}
 use borrow.Author.Tests.{ltb-true, ltb-false, not-true, not-false}
 use Rattle.rules.specs.Layout.{roomBits}
 use Rattle.rules.specs.Index.{lensOf, areasReach, spareClear, directoryTrue}
-use Rattle.rules.proofs.Layouts.{offset-last}
+use Rattle.rules.proofs.Layouts.{offset-last, room-most}
 use Rattle.layout.proofs.Rows.{starts-at}
-use Rattle.whole.proofs.Vectors.{room-most}
 use Rattle.whole.proofs.Judging.{judged-faulty, judged-sound, areas-4, areas-5, areas-6, areas-7, areas-none, reach-both, reach-words, reach-directory, spare-is, directory-is, areas-known}
 use borrow.Author.Needs.{needs}
 use Rattle.whole.proofs.judge_areas.Statement.{statement}
@@ -27,7 +26,7 @@ bits : (c : tie.After-row-starts)
 bits c =
     let s = c .before .before .before in
     ap (λ (row : List ℕ). getD row (s .args .k) 0) (c .row-starts .ensures)
-    ∙ starts-at (lengths s) (s .args .k) (s .args .k) (le-refl _) (s .pre .few) ∙ offset-last (lengths s) (s .args .k)
+    ∙ starts-at (lengths s) (s .args .k) (s .args .k) (le-refl _) (s .pre .few-tracks) ∙ offset-last (lengths s) (s .args .k)
 
 -- conditions 4, 5 and 6, where their tests are passed
 reach : (c : tie.Else2)
@@ -56,7 +55,9 @@ cast-bits : tie.Need-cast-bits
 cast-bits c = search needs
 
 add-count : tie.Need-add-count
-add-count c = omega (arith, bits c, room-most _ _ (c .before .before .before .pre))
+add-count c =
+    let s = c .before .before .before in
+    omega (arith, bits c, room-most (lengths s) (s .args .k) (s .pre .few-units) (s .pre .few-tracks))
 
 faulty-requires : tie.Need-faulty-requires
 faulty-requires c κs = search needs
@@ -69,7 +70,9 @@ returns c =
     c .faulty .ensures ∙ sym (judged-faulty (lengths s) (s .args .k) 4 (areas-4 _ _ _ _ no) (omega arith))
 
 spare-clear-requires : tie.Need-spare-clear-requires
-spare-clear-requires c κs = (omega arith, omega (arith, bits (c .before .before), room-most _ _ (c .before .before .before .before .before .pre)))
+spare-clear-requires c κs =
+    let s = c .before .before .before .before .before in
+    (omega arith, omega (arith, bits (c .before .before), room-most (lengths s) (s .args .k) (s .pre .few-units) (s .pre .few-tracks)))
 
 faulty-requires-2 : tie.Need-faulty-requires-2
 faulty-requires-2 c κs = search needs

@@ -12,7 +12,8 @@ use Rattle.rules.specs.Bits.{rank}
 use Rattle.rules.specs.Index.{lensOf}
 use Rattle.rules.proofs.Ranges.{every-all, every-not}
 use Rattle.rules.proofs.Bits.{rank-le}
-use Rattle.whole.proofs.Vectors.{vectorTrue, length-most, room-most, Ended, ended, true-at, vector-test, offset-own, own-true}
+use Rattle.rules.proofs.Layouts.{offset-own, words-hold, room-most, length-most}
+use Rattle.whole.proofs.Vectors.{vectorTrue, Ended, ended, vector-test, own-true}
 use Rattle.whole.proofs.row_true.Statement.{statement}
 use Rattle.whole.proofs.row_true.Tie as tie
 
@@ -43,7 +44,8 @@ vector-room-requires c κs = (omega arith, omega arith)
 add-end : tie.Need-add-end Inv-loop μ-loop
 add-end c =
     let s = c .before .before .before .before .before .before in
-    omega (arith, there c, room-most (lensOf (s .args .lens .now)) (s .args .k) (s .pre .0))
+    let few = s .pre .0 in
+    omega (arith, there c, room-most (lensOf (s .args .lens .now)) (s .args .k) (few .few-units) (few .few-tracks))
 
 mul-ones : tie.Need-mul-ones Inv-loop μ-loop
 mul-ones c = omega arith
@@ -54,17 +56,18 @@ element-copy-out-ones c = omega arith
 cast-ones : tie.Need-cast-ones Inv-loop μ-loop
 cast-ones c =
     let s = c .before .before .before .before .before .before .before in
-    omega (arith, length-most (lensOf (s .args .lens .now)) (s .args .k) (s .pre .0) (s .args .p) (omega arith))
+    omega (arith, length-most (lensOf (s .args .lens .now)) (s .args .k) (s .args .p) (s .pre .0 .few-units) (omega arith))
 
 add-ones : tie.Need-add-ones Inv-loop μ-loop
 add-ones c =
     let s = c .before .before .before .before .before .before .before in
-    let most = length-most (lensOf (s .args .lens .now)) (s .args .k) (s .pre .0) (s .args .p) (omega arith) in
+    let few = s .pre .0 in
+    let most = length-most (lensOf (s .args .lens .now)) (s .args .k) (s .args .p) (few .few-units) (omega arith) in
     omega (
       arith,
       most,
       there (c .before),
-      room-most (lensOf (s .args .lens .now)) (s .args .k) (s .pre .0),
+      room-most (lensOf (s .args .lens .now)) (s .args .k) (few .few-units) (few .few-tracks),
       rank-le (s .args .words .now) (c .before .before .before .before .loop .end),
     )
 
@@ -75,7 +78,7 @@ ones-through-requires : tie.Need-ones-through-requires Inv-loop μ-loop
 ones-through-requires c κs =
     let s = c .before .before .before .before .before .before .before in
     let e = there (c .before) in
-    true-at _ _ (s .pre .0) _ _ (s .pre .1 .0) _ (omega arith)
+    s .pre .1 .0 _ (omega (arith, words-hold (lensOf (s .args .lens .now)) (s .args .k)))
 
 returns : tie.Need-returns Inv-loop μ-loop
 returns c =
@@ -114,7 +117,7 @@ loop-again c =
     (λ w.
     let e : at .q ≡ p = w .0 .left in
     let stays : offset l k p (at .q + 1) ≡ offset l k p (at .q) =
-    ap (λ (q : ℕ). offset l k p (q + 1)) e ∙ offset-own l k ws p ∙ sym (ap (offset l k p) e) in (
+    ap (λ (q : ℕ). offset l k p (q + 1)) e ∙ offset-own l k p ∙ sym (ap (offset l k p) e) in (
       omega arith,
       w .1 ∙ at .inv .1 ∙ sym stays,
       w .2 ∙ at .inv .2 ∙ sym (ap (rank ws) (w .1)),

@@ -4,18 +4,19 @@ use mathlib.Core.Path.{_≡_, sym, ap, _∙_}
 use mathlib.Core.Bool.{true}
 use mathlib.Core.List.{List}
 use native.Mathlib.Omega.{arith}
-use borrow.Author.Tests.{not-true, not-false}
+use borrow.Author.Tests.{eqb-true, not-true, not-false}
 use borrow.Author.Count.{below-more}
 use lib.ListN.{getD}
 use Rattle.rules.specs.Ranges.{every}
 use Rattle.rules.specs.Layout.{offset}
 use Rattle.rules.specs.Bits.{rank}
 use Rattle.rules.specs.Index.{lensOf, vectorsTrue}
-use Rattle.rules.proofs.Ranges.{every-all, every-not}
+use Rattle.rules.proofs.Ranges.{every-all, every-one, every-not}
 use Rattle.rules.proofs.Bits.{rank-le}
-use Rattle.rules.proofs.Layouts.{offset-start}
+use Rattle.rules.proofs.Layouts.{offset-start, room-most, length-most}
+use Rattle.rules.proofs.Vectors.{rank-row}
 use Rattle.layout.proofs.Rows.{starts-at}
-use Rattle.whole.proofs.Vectors.{vectorTrue, length-most, room-most, row-within, row-most, rank-row}
+use Rattle.whole.proofs.Vectors.{vectorTrue, row-within, row-most}
 use Rattle.whole.proofs.vectors_true.Statement.{statement}
 use Rattle.whole.proofs.vectors_true.Tie as tie
 
@@ -33,7 +34,7 @@ starts : (c : tie.After-row-true-arg Inv-loop μ-loop)
 starts c =
     let s = c .before .before .before .before .before in
     let p = c .before .before .loop .p in
-    let few = s .pre .0 .few in
+    let few = s .pre .0 .few-tracks in
     ap (λ (row : List ℕ). getD row p 0) (s .pre .1 .1) ∙ starts-at (lensOf (s .args .lens .now)) (s .args .k) p (omega arith) few
 
 loop-holds : tie.Need-loop-holds Inv-loop μ-loop
@@ -52,7 +53,7 @@ cast-row-true : tie.Need-cast-row-true Inv-loop μ-loop
 cast-row-true c =
     let s = c .before .before .before .before .before in
     let l = lensOf (s .args .lens .now) in
-    omega (arith, starts c, row-within l (s .args .k) (s .pre .0) (c .before .before .loop .p) (omega arith), room-most l (s .args .k) (s .pre .0))
+    omega (arith, starts c, row-within l (s .args .k) (s .pre .0) (c .before .before .loop .p) (omega arith), room-most l (s .args .k) (s .pre .0 .few-units) (s .pre .0 .few-tracks))
 
 row-true-requires : tie.Need-row-true-requires Inv-loop μ-loop
 row-true-requires c κs =
@@ -79,7 +80,7 @@ element-copy-out-before c = omega arith
 cast-before : tie.Need-cast-before Inv-loop μ-loop
 cast-before c =
     let s = c .before .before .before .before .before .before .before .before in
-    omega (arith, length-most (lensOf (s .args .lens .now)) (s .args .k) (s .pre .0) (c .before .before .before .before .before .loop .p) (omega arith))
+    omega (arith, length-most (lensOf (s .args .lens .now)) (s .args .k) (c .before .before .before .before .before .loop .p) (s .pre .0 .few-units) (omega arith))
 
 mul-before-2 : tie.Need-mul-before-2 Inv-loop μ-loop
 mul-before-2 c =
@@ -95,7 +96,7 @@ add-before c =
       arith,
       row-most l (s .args .k) (s .pre .0) p (omega arith),
       row-within l (s .args .k) (s .pre .0) p (omega arith),
-      room-most l (s .args .k) (s .pre .0),
+      room-most l (s .args .k) (s .pre .0 .few-units) (s .pre .0 .few-tracks),
       rank-le (s .args .words .now) (offset l (s .args .k) p 0),
     )
 
@@ -112,7 +113,8 @@ loop-again c =
     let l = lensOf (a .lens .now) in
     let right : every (vectorTrue l (a .k) (a .words .now) (at .p)) (a .k) ≡ true =
     sym (c .before .before .row-true .ensures) ∙ not-false _ (c .before .if1 .left) in
-    (omega arith, omega (arith, rank-row l (a .k) (a .words .now) (at .p) (omega arith) right), below-more _ (at .p) (at .inv .2) right)
+    let ones = rank-row l (a .k) (a .words .now) (at .p) (omega arith) (λ q h. eqb-true _ _ (every-one (vectorTrue l (a .k) (a .words .now) (at .p)) (a .k) q right h)) in
+    (omega arith, omega (arith, ones), below-more _ (at .p) (at .inv .2) right)
 
 returns-2 : tie.Need-returns-2 Inv-loop μ-loop
 unfolding vectorsTrue

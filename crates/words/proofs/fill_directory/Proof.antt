@@ -6,9 +6,9 @@ use native.Mathlib.Omega.{arith}
 use lib.ListN.{length}
 use Rattle.rules.specs.Ranges.{table, over}
 use Rattle.rules.specs.Bits.{onesBefore}
-use Rattle.rules.proofs.Ranges.{length-table, length-over}
+use Rattle.rules.proofs.Ranges.{length-table}
+use Rattle.rules.proofs.Overs.{length-over, over-table-none, over-table-next}
 use Rattle.rules.proofs.Bits.{onesBefore-none, onesBefore-next, onesBefore-up}
-use Rattle.words.proofs.Filling.{over-none, over-next}
 use Rattle.words.proofs.fill_directory.Statement.{statement}
 use Rattle.words.proofs.fill_directory.Tie as tie
 
@@ -25,7 +25,7 @@ long c =
     ∙ length-over (c .before .args .directory .now) (table (onesBefore (c .before .args .words .now)) (c .loop .j)) (rw length-table (omega arith))
 
 loop-holds : tie.Need-loop-holds Inv-loop μ-loop
-loop-holds c = (omega arith, sym (onesBefore-none (c .args .words .now)), over-none _ _)
+loop-holds c = (omega arith, sym (onesBefore-none (c .args .words .now)), over-table-none _ _)
 
 cast-directory : tie.Need-cast-directory Inv-loop μ-loop
 cast-directory c = omega (arith, onesBefore-up (c .before .before .args .words .now) (c .before .loop .j) (c .before .before .args .count) (omega arith))
@@ -58,7 +58,7 @@ loop-again : tie.Need-loop-again Inv-loop μ-loop
 loop-again c =
     let ws = c .before .before .before .args .words .now in
     let inv = c .before .before .loop .inv in
-    (omega arith, omega (arith, onesBefore-next ws (c .before .before .loop .j)), rw (inv .1, inv .2) (over-next (onesBefore ws) _ _ (omega arith)))
+    (omega arith, omega (arith, onesBefore-next ws (c .before .before .loop .j)), rw (inv .1, inv .2) (over-table-next (onesBefore ws) _ _ (omega arith)))
 
 same-length : tie.Need-same-length Inv-loop μ-loop
 same-length c = long (c .before)

@@ -1,7 +1,7 @@
--- `words::read_bit`: a shift and a remainder are what `bit` says. Assumes nothing.
-use mathlib.Core.Path.{refl}
+-- `words::read_bit`: a shift and a mask are what `bit` says. Assumes nothing.
 use borrow.Author.Needs.{needs}
 use Rattle.rules.specs.Bits.{digit, bit}
+use Rattle.words.proofs.Operators.{mask-one}
 use Rattle.words.proofs.read_bit.Statement.{statement}
 use Rattle.words.proofs.read_bit.Tie as tie
 
@@ -16,7 +16,7 @@ shr-result c = search needs
 
 returns : tie.Need-returns
 unfolding bit digit
-returns c = refl
+returns c = mask-one _
 
 pub read-bit-spec : {M : Type 1} → statement M
 read-bit-spec = tie.close (tie.spec mul-result shared-slice-read-result shr-result returns)
