@@ -20,6 +20,7 @@ use Rattle.rules.specs.Ranges.{over}
 use Rattle.rules.specs.Listing.{Listing, pairs, upper, lower, within, countedNeeds, pairsVerdict, listingVerdict}
 use Rattle.rules.specs.Order.{soundVerdict}
 use Rattle.rules.specs.Index.{Index, builtCount, builtWords, builtDirectory, builtHead, builtWork, builtBits, whole}
+use Rattle.rules.specs.Questions.{kind10, kind11, kind12, kind13, kind14, kind15, kind16, kind17, kind18}
 
 -- what a call that may be refused leaves of an area: refused, as it was
 abbrev pub unlessRefused {ℓ} : {A : Type ℓ} → Verdict → A → A → A
@@ -120,6 +121,39 @@ listAnswer v units list at =
 
 unfoldable pub listOutcome : Index → ℕ → List ℕ → List ℕ → ℕ → ListOutcome
 listOutcome x u units list at = listAnswer (wholeVerdict x then unitVerdict x 1 u then listRoom units list at) units list at
+
+-- ---- the nine questions, each by its index and its arguments
+
+-- kinds 10 and 11
+abbrev pub needsOutcome : Index → ℕ → ℕ → PairAnswer
+needsOutcome x u v = pairOutcome x u v (kind10 x u v)
+
+abbrev pub isStepOutcome : Index → ℕ → ℕ → PairAnswer
+isStepOutcome x u v = pairOutcome x u v (kind11 x u v)
+
+-- kinds 12 to 15: the answer, and what the lent list then holds
+abbrev pub neededOutcome : Index → ℕ → List ℕ → ℕ → ListOutcome
+neededOutcome x u list at = listOutcome x u (kind12 x u) list at
+
+abbrev pub needingOutcome : Index → ℕ → List ℕ → ℕ → ListOutcome
+needingOutcome x u list at = listOutcome x u (kind13 x u) list at
+
+abbrev pub stepsOutcome : Index → ℕ → List ℕ → ℕ → ListOutcome
+stepsOutcome x u list at = listOutcome x u (kind14 x u) list at
+
+abbrev pub stepsUpOutcome : Index → ℕ → List ℕ → ℕ → ListOutcome
+stepsUpOutcome x u list at = listOutcome x u (kind15 x u) list at
+
+-- kind 16
+abbrev pub stageOutcome : Index → ℕ → NumberAnswer
+stageOutcome x u = unitOutcome x u (kind16 x u)
+
+-- kinds 17 and 18
+abbrev pub unitLowOutcome : Index → ℕ → ℕ → NumberAnswer
+unitLowOutcome x u q = boundOutcome x u q (kind17 x u q)
+
+abbrev pub unitHighOutcome : Index → ℕ → ℕ → NumberAnswer
+unitHighOutcome x u q = boundOutcome x u q (kind18 x u q)
 
 -- ---- the part of a need list that begins with a unit
 
