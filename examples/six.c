@@ -13,6 +13,8 @@ int main(void)
     uint64_t words[1];                                /* 2n(k-1) = 12 bits */
     uint16_t directory[1], work[6 * 2], list[6] = {0};
 
+    if (ngolishepa_version() != NGOLISHEPA_VERSION)
+        return 1; /* compiled with another header than the archive's */
     ngolishepa_built built = ngolishepa_build(6, 2, tracks, 6, needs, 16, words, 1, directory, 1, work, 12);
     printf("refusal %u, %u bits\n", built.refusal.number, built.bits);
     printf("6 needs 1: %s\n", ngolishepa_needs(INDEX, 6, 1).yes ? "yes" : "no");

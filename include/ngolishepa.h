@@ -6,11 +6,14 @@
  *
  * Every call ends, on every input, with an answer or a numbered refusal; none looks at anything but its arguments, keeps
  * anything or takes memory, and none calls anything but the memcpy and memset that a compiler puts in. No call trusts an
- * index: each question judges it first.
+ * index: each question judges it first. But a whole index need not be one that was built: whoever stores an index keeps a
+ * checksum beside it, since altered words may still be a whole index, of another course.
  *
- * Areas are lent as a pointer and a count of entries. What a caller owes, since C cannot tell: each pointer is aligned
- * for its entries, not null (an area of no entries may be any such address), and good for its count; and an area that a
- * call writes does not overlap another area of that call. Nothing past the entries named below is ever written.
+ * Areas are lent as a pointer and a count of entries, so needs_len is twice the count of pairs: half of a need list, where
+ * that is even, builds half the course without a word. What a caller owes, since C cannot tell: each pointer is aligned for
+ * its entries and good for its count, and an area that a call writes does not overlap another area of that call. The
+ * pointer of an area of no entries may be anything, null too. Where k is 1, words and directory have none. Nothing past the
+ * entries named below is ever written.
  */
 #ifndef NGOLISHEPA_H
 #define NGOLISHEPA_H
@@ -23,10 +26,14 @@
 extern "C" {
 #endif
 
+/* Changes with the layout of a struct below. The archive tells its own by ngolishepa_version: a caller for which the two
+ * differ was compiled with another header than the archive's. */
+#define NGOLISHEPA_VERSION 1
+
 enum {
     NGOLISHEPA_MAX_UNITS = 1024,
     NGOLISHEPA_MAX_TRACKS = 32,
-    NGOLISHEPA_MAX_NEEDS = 8192,
+    NGOLISHEPA_MAX_NEEDS = 8192, /* pairs */
     NGOLISHEPA_MAX_BITS = 63488,
     /* entries that are enough for every course */
     NGOLISHEPA_MAX_WORDS = 992,
@@ -80,12 +87,18 @@ typedef struct {
     uint32_t number;
 } ngolishepa_number_answer;
 
-/* the entries from start on, count of them, of the lent need list; refused: both 0 */
+/* The entries from start on, count of them, of the lent need list. A part of no entries starts where the unit's pairs would
+ * stand: at the first pair of a greater unit, or at the end of the list. Refused: both 0. */
 typedef struct {
     ngolishepa_refusal refusal;
     size_t start;
     size_t count;
 } ngolishepa_part_answer;
+
+/* ---- the version */
+
+/* NGOLISHEPA_VERSION as the archive has it. Costs nothing. */
+uint32_t ngolishepa_version(void);
 
 /* ---- a listing */
 
@@ -113,9 +126,10 @@ ngolishepa_refusal ngolishepa_check_index(ngolishepa_head head, const uint16_t *
                                           const uint64_t *words, size_t words_len, const uint16_t *directory,
                                           size_t directory_len);
 
-/* ---- the questions: refusal 9, then 8; each judges the index first, which is most of what it costs */
+/* ---- the questions: refusal 9, then 8; each judges the index first, which costs what ngolishepa_check_index costs, and
+ * then finds its units in the track list, in one pass up to each */
 
-/* Kind 10: u needs v. */
+/* Kind 10: u needs v. Beside the judging it costs one look. */
 ngolishepa_pair_answer ngolishepa_needs(ngolishepa_head head, const uint16_t *tracks, size_t tracks_len,
                                         const uint64_t *words, size_t words_len, const uint16_t *directory,
                                         size_t directory_len, uint16_t u, uint16_t v);
@@ -155,12 +169,13 @@ ngolishepa_number_answer ngolishepa_stage(ngolishepa_head head, const uint16_t *
                                           const uint64_t *words, size_t words_len, const uint16_t *directory,
                                           size_t directory_len, uint16_t u);
 
-/* Kind 17: the unit at low(u, q), the last of track q that u needs; 0 if none. */
+/* Kind 17: the unit at low(u, q), the last of track q that u needs; 0 if none. Beside the judging it costs one select and
+ * one pass over the track list. */
 ngolishepa_number_answer ngolishepa_unit_low(ngolishepa_head head, const uint16_t *tracks, size_t tracks_len,
                                              const uint64_t *words, size_t words_len, const uint16_t *directory,
                                              size_t directory_len, uint16_t u, uint16_t q);
 
-/* Kind 18: the unit at high(u, q), the first of track q that needs u; 0 if none. */
+/* Kind 18: the unit at high(u, q), the first of track q that needs u; 0 if none. Costs as kind 17. */
 ngolishepa_number_answer ngolishepa_unit_high(ngolishepa_head head, const uint16_t *tracks, size_t tracks_len,
                                               const uint64_t *words, size_t words_len, const uint16_t *directory,
                                               size_t directory_len, uint16_t u, uint16_t q);

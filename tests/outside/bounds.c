@@ -425,6 +425,10 @@ static void parts_at_the_edges(void)
     hold_part(six_needs, 0, 6);
     ngolishepa_part_answer p = ngolishepa_part(six_needs, 16, 6);
     must(p.start == 10 && p.count == 6, "the part of 6 is its three pairs");
+    p = ngolishepa_part(six_needs, 16, 1);
+    must(p.start == 0 && p.count == 0, "the empty part of 1 lies before the pairs of 2");
+    p = ngolishepa_part(six_needs, 16, 7);
+    must(p.start == 16 && p.count == 0, "the empty part of 7 lies at the end");
     must_refuse(ngolishepa_part(six_needs, 16, 1).refusal, 0, 0, "a unit without pairs");
     must_refuse(ngolishepa_part(six_needs, 16, 1024).refusal, 0, 0, "unit 1,024");
     must_refuse(ngolishepa_part(six_needs, 16, 1025).refusal, 8, 1, "unit 1,025");

@@ -72,11 +72,8 @@ void hold_part(const uint16_t *need_list, size_t needs_len, uint16_t unit)
     lend16(&needs, needs_len, need_list);
     ngolishepa_part_answer is = ngolishepa_part(lent(&needs), needs_len, unit), must = reference_part(need_list, needs_len, unit);
     hold_refusal("part", is.refusal, must.refusal);
-    if (is.count != must.count || (must.count > 0 && is.start != must.start))
+    if (is.count != must.count || is.start != must.start)
         wrong("part of unit %u: %zu entries from %zu, must be %zu from %zu", unit, is.count, is.start, must.count, must.start);
-    /* an empty part may lie anywhere in the list; a refused one lies at its start */
-    if (is.start > needs_len || (must.refusal.number != 0 && is.start != 0))
-        wrong("empty part of unit %u: from %zu of %zu entries", unit, is.start, needs_len);
     hold_area("part", "need list", &needs, sizeof(uint16_t));
 }
 

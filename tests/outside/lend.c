@@ -10,7 +10,7 @@ enum { PAGE = 65536 }; /* a multiple of every machine's page */
 
 struct area area_of(size_t bytes)
 {
-    struct area a = {NULL, NULL, 0, 0, 0};
+    struct area a = {NULL, NULL, 0, 0, 0, true};
     a.bytes = (bytes + 2 * GUARD + PAGE - 1) / PAGE * PAGE;
     unsigned char *memory = mmap(NULL, a.bytes + 2 * PAGE, PROT_NONE, MAP_PRIVATE | MAP_ANONYMOUS, -1, 0);
     a.kept = malloc(a.bytes);
@@ -41,18 +41,19 @@ void lend(struct area *a, size_t bytes, const void *from, bool fenced)
 {
     a->length = bytes;
     a->start = a->bytes - bytes - (fenced ? 0 : GUARD);
+    a->nowhere = bytes == 0 && !fenced;
     noise(a->room + a->start - GUARD, GUARD);
     noise(a->room + a->start + bytes, fenced ? 0 : GUARD);
     if (from == NULL)
-        noise(lent(a), bytes);
+        noise(a->room + a->start, bytes);
     else
-        memcpy(lent(a), from, bytes);
+        memcpy(a->room + a->start, from, bytes);
     memcpy(a->kept + a->start - GUARD, a->room + a->start - GUARD, a->bytes - (a->start - GUARD));
 }
 
 void *lent(const struct area *a)
 {
-    return a->room + a->start;
+    return a->nowhere ? NULL : a->room + a->start;
 }
 
 void *must_hold(const struct area *a)

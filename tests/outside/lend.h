@@ -13,6 +13,7 @@ struct area {
     unsigned char *room, *kept; /* the memory, and what it must hold */
     size_t bytes;               /* of the memory, whole pages */
     size_t start, length;       /* the lent part, in bytes */
+    bool nowhere;               /* it has no entries, and is lent as a null pointer */
 };
 
 /* what is noise from here on follows from the seed */
@@ -22,7 +23,7 @@ void lendings_from(uint64_t seed);
 struct area area_of(size_t bytes);
 
 /* Lends so many bytes, with contents copied from `from`, or as they are lent from NULL: noise. Fenced: the area ends where the forbidden
- * page begins, so that reading past its end is caught too. */
+ * page begins, so that reading past its end is caught too. No bytes: a null pointer, or fenced the forbidden page itself. */
 void lend(struct area *a, size_t bytes, const void *from, bool fenced);
 
 /* the lent part, for the call; and what it must hold, for the reference to write */

@@ -64,12 +64,10 @@ ngolishepa_part_answer reference_part(const uint16_t *needs, size_t needs_len, u
         part.refusal = judge_pairs(needs, needs_len / 2, UNITS);
     if (part.refusal.number != 0)
         return part;
-    for (size_t i = 0; i < needs_len / 2; i++)
-        if (needs[2 * i] == unit) {
-            if (part.count == 0)
-                part.start = 2 * i;
-            part.count += 2;
-        }
+    for (size_t i = 0; i < needs_len / 2; i++) {
+        part.start += needs[2 * i] < unit ? 2 : 0;
+        part.count += needs[2 * i] == unit ? 2 : 0;
+    }
     return part;
 }
 

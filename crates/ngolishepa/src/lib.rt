@@ -10,10 +10,10 @@ use rules::Verdict;
 ghost use mathlib.Core.Path.{_≡_};
 ghost use Rattle.rules.specs.Index.{index};
 ghost use Rattle.rules.specs.Listing.{listing, listingVerdict};
-ghost use Rattle.rules.specs.Questions.{kind10, kind11, kind12, kind13, kind14, kind15, kind16, kind17, kind18};
-ghost use Rattle.rules.specs.Outcomes.{buildOutcome, wholeVerdict, pairOutcome, unitOutcome, boundOutcome, listOutcome};
+ghost use Rattle.rules.specs.Outcomes.{buildOutcome, wholeVerdict, needsOutcome, isStepOutcome, neededOutcome, needingOutcome, stepsOutcome, stepsUpOutcome, stageOutcome, unitLowOutcome, unitHighOutcome};
 ghost use Rattle.rules.specs.Told.{toldRefusal, toldVerdict, toldPair, toldNumber, toldList, ListTold};
 ghost use Rattle.ngolishepa.specs.Told.{toldPart, toldBuild, BuildTold};
+ghost use Rattle.ngolishepa.specs.Version.{version};
 
 // What a build answers.
 #[repr(C)]
@@ -159,9 +159,9 @@ pub extern "C" fn ngolishepa_needs(
     u: u16,
     v: u16,
 ) -> PairTold
-    ensures { λ r. ⌜ r ≡ toldPair (pairOutcome (index head (now (tracks .entry)) (now (words .entry)) (now (directory .entry))) u v (kind10 (index head (now (tracks .entry)) (now (words .entry)) (now (directory .entry))) u v)) ⌝ }
+    ensures { λ r. ⌜ r ≡ toldPair (needsOutcome (index head (now (tracks .entry)) (now (words .entry)) (now (directory .entry))) u v) ⌝ }
 {
-    tell_pair(questions::needs(head, tracks, words, directory, u, v))
+    tell_pair(pair_questions::needs(head, tracks, words, directory, u, v))
 }
 
 // Kind 11.
@@ -174,9 +174,9 @@ pub extern "C" fn ngolishepa_is_step(
     u: u16,
     v: u16,
 ) -> PairTold
-    ensures { λ r. ⌜ r ≡ toldPair (pairOutcome (index head (now (tracks .entry)) (now (words .entry)) (now (directory .entry))) u v (kind11 (index head (now (tracks .entry)) (now (words .entry)) (now (directory .entry))) u v)) ⌝ }
+    ensures { λ r. ⌜ r ≡ toldPair (isStepOutcome (index head (now (tracks .entry)) (now (words .entry)) (now (directory .entry))) u v) ⌝ }
 {
-    tell_pair(questions::is_step(head, tracks, words, directory, u, v))
+    tell_pair(pair_questions::is_step(head, tracks, words, directory, u, v))
 }
 
 // Kind 12.
@@ -190,9 +190,9 @@ pub extern "C" fn ngolishepa_needed(
     list: &mut [u16],
     place: usize,
 ) -> NumberTold
-    ensures { λ r. ⌜ record { answer = r; list = now (list .exit) } ≡ toldList (listOutcome (index head (now (tracks .entry)) (now (words .entry)) (now (directory .entry))) u (kind12 (index head (now (tracks .entry)) (now (words .entry)) (now (directory .entry))) u) (now (list .entry)) place) ⌝ }
+    ensures { λ r. ⌜ record { answer = r; list = now (list .exit) } ≡ toldList (neededOutcome (index head (now (tracks .entry)) (now (words .entry)) (now (directory .entry))) u (now (list .entry)) place) ⌝ }
 {
-    tell_number(questions::needed(head, tracks, words, directory, u, list, place))
+    tell_number(list_questions::needed(head, tracks, words, directory, u, list, place))
 }
 
 // Kind 13.
@@ -206,9 +206,9 @@ pub extern "C" fn ngolishepa_needing(
     list: &mut [u16],
     place: usize,
 ) -> NumberTold
-    ensures { λ r. ⌜ record { answer = r; list = now (list .exit) } ≡ toldList (listOutcome (index head (now (tracks .entry)) (now (words .entry)) (now (directory .entry))) u (kind13 (index head (now (tracks .entry)) (now (words .entry)) (now (directory .entry))) u) (now (list .entry)) place) ⌝ }
+    ensures { λ r. ⌜ record { answer = r; list = now (list .exit) } ≡ toldList (needingOutcome (index head (now (tracks .entry)) (now (words .entry)) (now (directory .entry))) u (now (list .entry)) place) ⌝ }
 {
-    tell_number(questions::needing(head, tracks, words, directory, u, list, place))
+    tell_number(list_questions::needing(head, tracks, words, directory, u, list, place))
 }
 
 // Kind 14.
@@ -222,9 +222,9 @@ pub extern "C" fn ngolishepa_steps(
     list: &mut [u16],
     place: usize,
 ) -> NumberTold
-    ensures { λ r. ⌜ record { answer = r; list = now (list .exit) } ≡ toldList (listOutcome (index head (now (tracks .entry)) (now (words .entry)) (now (directory .entry))) u (kind14 (index head (now (tracks .entry)) (now (words .entry)) (now (directory .entry))) u) (now (list .entry)) place) ⌝ }
+    ensures { λ r. ⌜ record { answer = r; list = now (list .exit) } ≡ toldList (stepsOutcome (index head (now (tracks .entry)) (now (words .entry)) (now (directory .entry))) u (now (list .entry)) place) ⌝ }
 {
-    tell_number(questions::steps(head, tracks, words, directory, u, list, place))
+    tell_number(list_questions::steps(head, tracks, words, directory, u, list, place))
 }
 
 // Kind 15.
@@ -238,9 +238,9 @@ pub extern "C" fn ngolishepa_steps_up(
     list: &mut [u16],
     place: usize,
 ) -> NumberTold
-    ensures { λ r. ⌜ record { answer = r; list = now (list .exit) } ≡ toldList (listOutcome (index head (now (tracks .entry)) (now (words .entry)) (now (directory .entry))) u (kind15 (index head (now (tracks .entry)) (now (words .entry)) (now (directory .entry))) u) (now (list .entry)) place) ⌝ }
+    ensures { λ r. ⌜ record { answer = r; list = now (list .exit) } ≡ toldList (stepsUpOutcome (index head (now (tracks .entry)) (now (words .entry)) (now (directory .entry))) u (now (list .entry)) place) ⌝ }
 {
-    tell_number(questions::steps_up(head, tracks, words, directory, u, list, place))
+    tell_number(list_questions::steps_up(head, tracks, words, directory, u, list, place))
 }
 
 // Kind 16.
@@ -252,9 +252,9 @@ pub extern "C" fn ngolishepa_stage(
     directory: &[u16],
     u: u16,
 ) -> NumberTold
-    ensures { λ r. ⌜ r ≡ toldNumber (unitOutcome (index head (now (tracks .entry)) (now (words .entry)) (now (directory .entry))) u (kind16 (index head (now (tracks .entry)) (now (words .entry)) (now (directory .entry))) u)) ⌝ }
+    ensures { λ r. ⌜ r ≡ toldNumber (stageOutcome (index head (now (tracks .entry)) (now (words .entry)) (now (directory .entry))) u) ⌝ }
 {
-    tell_number(questions::stage(head, tracks, words, directory, u))
+    tell_number(number_questions::stage(head, tracks, words, directory, u))
 }
 
 // Kind 17.
@@ -267,9 +267,9 @@ pub extern "C" fn ngolishepa_unit_low(
     u: u16,
     q: u16,
 ) -> NumberTold
-    ensures { λ r. ⌜ r ≡ toldNumber (boundOutcome (index head (now (tracks .entry)) (now (words .entry)) (now (directory .entry))) u q (kind17 (index head (now (tracks .entry)) (now (words .entry)) (now (directory .entry))) u q)) ⌝ }
+    ensures { λ r. ⌜ r ≡ toldNumber (unitLowOutcome (index head (now (tracks .entry)) (now (words .entry)) (now (directory .entry))) u q) ⌝ }
 {
-    tell_number(questions::unit_low(head, tracks, words, directory, u, q))
+    tell_number(number_questions::unit_low(head, tracks, words, directory, u, q))
 }
 
 // Kind 18.
@@ -282,7 +282,19 @@ pub extern "C" fn ngolishepa_unit_high(
     u: u16,
     q: u16,
 ) -> NumberTold
-    ensures { λ r. ⌜ r ≡ toldNumber (boundOutcome (index head (now (tracks .entry)) (now (words .entry)) (now (directory .entry))) u q (kind18 (index head (now (tracks .entry)) (now (words .entry)) (now (directory .entry))) u q)) ⌝ }
+    ensures { λ r. ⌜ r ≡ toldNumber (unitHighOutcome (index head (now (tracks .entry)) (now (words .entry)) (now (directory .entry))) u q) ⌝ }
 {
-    tell_number(questions::unit_high(head, tracks, words, directory, u, q))
+    tell_number(number_questions::unit_high(head, tracks, words, directory, u, q))
+}
+
+// ---- the version
+
+// Changes with the layout of a struct that C reads or writes; include/ngolishepa.h has the same number.
+const VERSION: u32 = 1;
+
+#[no_mangle]
+pub extern "C" fn ngolishepa_version() -> u32
+    ensures { λ r. ⌜ r ≡ version ⌝ }
+{
+    VERSION
 }

@@ -1,0 +1,2 @@
+-- What the proofs of the questions use.
+pub mod Granted

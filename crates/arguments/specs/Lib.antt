@@ -1,0 +1,2 @@
+-- What the contracts of this crate say beside the definitions of `rules`.
+pub mod Arguments
