@@ -10,8 +10,8 @@ use Rattle.rules.specs.declared.NumberAnswer.{NumberAnswer}
 use Rattle.rules.specs.declared.NumberAnswer.the-variants.{Number, Refused}
 use Rattle.rules.specs.Listing.{within}
 use Rattle.rules.specs.Index.{Index}
-use Rattle.rules.specs.Questions.{kind10, kind11, kind12, kind13, kind14, kind15, kind16, kind17, kind18}
-use Rattle.rules.specs.Outcomes.{pairOutcome, unitOutcome, boundOutcome}
+use Rattle.rules.specs.Questions.{kind10, kind11, kind12, kind13, kind14, kind15}
+use Rattle.rules.specs.Outcomes.{pairOutcome, stageOutcome, unitLowOutcome, unitHighOutcome}
 use Rattle.frames.specs.Printed.{refusedLine, listLine}
 use Rattle.reading.specs.declared.Card.{Card}
 use Rattle.reading.specs.declared.Step.{Step}
@@ -36,8 +36,8 @@ listAsked x kind u = listPrinted x u (unitsAsked x kind u)
 
 abbrev pub numberAsked : Index → ℕ → ℕ → ℕ → NumberAnswer
 numberAsked x kind u q =
-    cond (eqb kind 0x16) (unitOutcome x u (kind16 x u))
-    (cond (eqb kind 0x17) (boundOutcome x u q (kind17 x u q)) (boundOutcome x u q (kind18 x u q)))
+    cond (eqb kind 0x16) (stageOutcome x u)
+    (cond (eqb kind 0x17) (unitLowOutcome x u q) (unitHighOutcome x u q))
 
 -- the units that an answer counts, or its refusal
 abbrev pub answerLine : NumberAnswer → List ℕ → List ℕ

@@ -14,7 +14,7 @@ use borrow.Rule.Slice.PartMut.{midOf, putMid}
 use Rattle.rules.specs.Ranges.{first, over}
 use Rattle.rules.proofs.Ranges.{first-at}
 use Rattle.rules.proofs.Verdicts.{and-both, both-and}
-use Rattle.frames.proofs.Overs.{part-back}
+use Rattle.rules.proofs.Overs.{part-back}
 use Rattle.reading.specs.declared.Card.{Card}
 use Rattle.reading.specs.declared.Step.{Step}
 use Rattle.reading.specs.Card.{Reading, Next, reads, readLine}

@@ -13,8 +13,8 @@ use Rattle.rules.specs.Refusals.{_then_}
 use Rattle.rules.specs.Listing.{Listing, listing, pairs, within, listingVerdict}
 use Rattle.rules.specs.Order.{soundVerdict}
 use Rattle.rules.specs.Index.{Index, builtIndex, builtBits}
-use Rattle.rules.specs.Questions.{kind10, kind11, kind12, kind13, kind14, kind15, kind16, kind17, kind18}
-use Rattle.rules.specs.Outcomes.{unitVerdict, wholeVerdict, pairOutcome, unitOutcome, boundOutcome}
+use Rattle.rules.specs.Questions.{kind12, kind13, kind14, kind15}
+use Rattle.rules.specs.Outcomes.{unitVerdict, wholeVerdict, needsOutcome, isStepOutcome, stageOutcome, unitLowOutcome, unitHighOutcome}
 use Rattle.frames.specs.declared.Frame.{Frame}
 use Rattle.frames.specs.declared.Line.{Line}
 use Rattle.frames.specs.declared.Line.the-variants as line
@@ -129,15 +129,15 @@ ifZero r b printed = cond (eqb b 0) (answered r printed) (misplaced r)
 unfoldable pub questionFrame : Reading → ℕ → ℕ → ℕ → Next
 questionFrame r kind a b =
     let x = readIndex r in
-    cond (eqb kind 0x10) (answered r (pairLine (pairOutcome x a b (kind10 x a b))))
-    (cond (eqb kind 0x11) (answered r (pairLine (pairOutcome x a b (kind11 x a b))))
+    cond (eqb kind 0x10) (answered r (pairLine (needsOutcome x a b)))
+    (cond (eqb kind 0x11) (answered r (pairLine (isStepOutcome x a b)))
     (cond (eqb kind 0x12) (ifZero r b (listPrinted x a (kind12 x a)))
     (cond (eqb kind 0x13) (ifZero r b (listPrinted x a (kind13 x a)))
     (cond (eqb kind 0x14) (ifZero r b (listPrinted x a (kind14 x a)))
     (cond (eqb kind 0x15) (ifZero r b (listPrinted x a (kind15 x a)))
-    (cond (eqb kind 0x16) (ifZero r b (numberLine (unitOutcome x a (kind16 x a))))
-    (cond (eqb kind 0x17) (answered r (numberLine (boundOutcome x a b (kind17 x a b))))
-    (cond (eqb kind 0x18) (answered r (numberLine (boundOutcome x a b (kind18 x a b))))
+    (cond (eqb kind 0x16) (ifZero r b (numberLine (stageOutcome x a)))
+    (cond (eqb kind 0x17) (answered r (numberLine (unitLowOutcome x a b)))
+    (cond (eqb kind 0x18) (answered r (numberLine (unitHighOutcome x a b)))
     (misplaced r)))))))))
 
 -- ---- the order of frames

@@ -7,7 +7,7 @@ use borrow.Author.Tests.{not-true, not-false}
 use Rattle.rules.specs.declared.Refusal.the-variants.{NoFrame, FrameOrder}
 use Rattle.frames.proofs.Lengths.{length-refused}
 use Rattle.reading.specs.Held.{readingOf}
-use Rattle.frames.proofs.Overs.{over-none}
+use Rattle.rules.proofs.Overs.{over-none}
 use Rattle.card.proofs.Files.{rest-none, rest-stopped, rest-refused}
 use borrow.Author.Needs.{needs}
 use Rattle.card.proofs.finish.Statement.{statement}
