@@ -7,7 +7,7 @@
  * Every call ends, on every input, with an answer or a numbered refusal; none looks at anything but its arguments, keeps
  * anything or takes memory, and none calls anything but the memcpy and memset that a compiler puts in. No call trusts an
  * index: each question judges it first. But a whole index need not be one that was built: whoever stores an index keeps a
- * checksum beside it, since altered words may still be a whole index, of another course.
+ * checksum beside it, since altered words may still make a whole index.
  *
  * Areas are lent as a pointer and a count of entries, so needs_len is twice the count of pairs: half of a need list, where
  * that is even, builds half the course without a word. What a caller owes, since C cannot tell: each pointer is aligned for

@@ -157,14 +157,18 @@ static void nothing_lent(void)
     must_refuse(ngolishepa_check_index(six, six_tracks, 6, NULL, 0, NULL, 0), 9, 0, "no words and no directory");
 }
 
-/* half of a need list is a listing of its own where it is even: needs_len counts numbers, not pairs */
+/* needs_len counts numbers: the count of pairs given instead builds half the course, without a refusal where it is even */
 static void half_a_need_list(void)
 {
-    static const uint16_t tracks[] = {0, 0, 0}, needs[] = {2, 1, 3, 1, 3, 2, 3, 2};
-    uint16_t work[3];
-    must_refuse(ngolishepa_build(3, 1, tracks, 3, needs, 6, NULL, 0, NULL, 0, work, 3).refusal, 0, 0, "three pairs");
-    must_refuse(ngolishepa_build(3, 1, tracks, 3, needs, 3, NULL, 0, NULL, 0, work, 3).refusal, 1, 0, "as many numbers");
-    must_refuse(ngolishepa_build(3, 1, tracks, 3, needs, 4, NULL, 0, NULL, 0, work, 3).refusal, 7, 3, "four numbers: two pairs");
+    static const uint16_t tracks[] = {0, 0, 1}, needs[] = {2, 1, 3, 1};
+    uint64_t words[1];
+    uint16_t directory[1], work[6];
+    for (size_t numbers = 4; numbers >= 2; numbers -= 2) {
+        ngolishepa_built b = ngolishepa_build(3, 2, tracks, 3, needs, numbers, words, 1, directory, 1, work, 6);
+        must_refuse(b.refusal, 0, 0, "the need list, and its first half");
+        must(ngolishepa_needs(b.head, tracks, 3, words, 1, directory, 1, 3, 1).yes == (numbers == 4), "3 needs 1 by the second half");
+    }
+    must_refuse(ngolishepa_build(3, 2, tracks, 3, needs, 3, words, 1, directory, 1, work, 6).refusal, 1, 0, "an odd half");
 }
 
 static void (*const cases[])(void) = {

@@ -12,26 +12,26 @@ use Rattle.arguments.specs.Arguments.{oneUnit, unitAndTrack}
 use Rattle.arguments.proofs.Granted.{partsOf, one-unit-is, unit-and-track-are, granted, granted-track}
 
 module _ (x : Index) (j : Judged) (e : j ≡ judged x) (u : ℕ) where
-  pub unit-refused : (r : Refusal) (answer : ℕ) → oneUnit (j .fault) (x .head .n) u ≡ Refused r → number.Refused r ≡ unitOutcome x u answer
+  pub unit-refusal : (r : Refusal) (answer : ℕ) → oneUnit (j .fault) (x .head .n) u ≡ Refused r → number.Refused r ≡ unitOutcome x u answer
   unfolding unitOutcome
-  unit-refused r answer h = rw (sym (one-unit-is x j e u) ∙ h)
+  unit-refusal r answer h = rw (sym (one-unit-is x j e u) ∙ h)
 
   -- fine: the answer is that of the index by its parts
-  pub unit-answered : oneUnit (j .fault) (x .head .n) u ≡ Fine → (kind : Index → ℕ → ℕ) (t : ℕ) → t ≡ kind (partsOf x) u
+  pub unit-by-parts : oneUnit (j .fault) (x .head .n) u ≡ Fine → (kind : Index → ℕ → ℕ) (t : ℕ) → t ≡ kind (partsOf x) u
       → number.Number t ≡ unitOutcome x u (kind x u)
   unfolding unitOutcome
-  unit-answered fine kind t a =
+  unit-by-parts fine kind t a =
       rw (sym (one-unit-is x j e u) ∙ fine) (ap number.Number (a ∙ ap (λ (y : Index). kind y u) (granted x j e u fine .is-parts)))
 
   module _ (q : ℕ) where
-    pub bound-refused : (r : Refusal) (answer : ℕ) → unitAndTrack (j .fault) (x .head .n) (x .head .k) u q ≡ Refused r
+    pub bound-refusal : (r : Refusal) (answer : ℕ) → unitAndTrack (j .fault) (x .head .n) (x .head .k) u q ≡ Refused r
         → number.Refused r ≡ boundOutcome x u q answer
     unfolding boundOutcome
-    bound-refused r answer h = rw (sym (unit-and-track-are x j e u q) ∙ h)
+    bound-refusal r answer h = rw (sym (unit-and-track-are x j e u q) ∙ h)
 
-    pub bound-answered : unitAndTrack (j .fault) (x .head .n) (x .head .k) u q ≡ Fine → (kind : Index → ℕ → ℕ → ℕ) (t : ℕ)
+    pub bound-by-parts : unitAndTrack (j .fault) (x .head .n) (x .head .k) u q ≡ Fine → (kind : Index → ℕ → ℕ → ℕ) (t : ℕ)
         → t ≡ kind (partsOf x) u q → number.Number t ≡ boundOutcome x u q (kind x u q)
     unfolding boundOutcome
-    bound-answered fine kind t a =
+    bound-by-parts fine kind t a =
         rw (sym (unit-and-track-are x j e u q) ∙ fine)
         (ap number.Number (a ∙ ap (λ (y : Index). kind y u q) (granted-track x j e u q fine .0 .is-parts)))

@@ -14,14 +14,14 @@ use Rattle.arguments.specs.Arguments.{twoUnits}
 use Rattle.arguments.proofs.Granted.{partsOf, two-units-are, granted-units}
 
 module _ (x : Index) (j : Judged) (e : j ≡ judged x) (u v : ℕ) where
-  pub pair-refused : (r : Refusal) (answer : Bool) → twoUnits (j .fault) (x .head .n) u v ≡ Refused r → pair.Refused r ≡ pairOutcome x u v answer
+  pub pair-refusal : (r : Refusal) (answer : Bool) → twoUnits (j .fault) (x .head .n) u v ≡ Refused r → pair.Refused r ≡ pairOutcome x u v answer
   unfolding pairOutcome
-  pair-refused r answer h = rw (sym (two-units-are x j e u v) ∙ h)
+  pair-refusal r answer h = rw (sym (two-units-are x j e u v) ∙ h)
 
   -- fine: the answer is that of the index by its parts
-  pub pair-answered : twoUnits (j .fault) (x .head .n) u v ≡ Fine → (kind : Index → ℕ → ℕ → Bool) (t : Bool) (out : PairAnswer)
+  pub pair-by-parts : twoUnits (j .fault) (x .head .n) u v ≡ Fine → (kind : Index → ℕ → ℕ → Bool) (t : Bool) (out : PairAnswer)
       → t ≡ kind (partsOf x) u v → out ≡ yesOrNo t → out ≡ pairOutcome x u v (kind x u v)
   unfolding pairOutcome
-  pair-answered fine kind t out a told =
+  pair-by-parts fine kind t out a told =
       rw (sym (two-units-are x j e u v) ∙ fine)
       (told ∙ ap yesOrNo (a ∙ ap (λ (y : Index). kind y u v) (granted-units x j e u v fine .0 .is-parts)))

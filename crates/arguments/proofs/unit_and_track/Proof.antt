@@ -1,5 +1,5 @@
 -- `arguments::unit_and_track`: a refusal of the first unit stands; after it the test of the track is the test of the verdict. Assumes nothing.
-use mathlib.Core.Path.{_≡_, sym, _∙_}
+use mathlib.Core.Path.{sym, _∙_}
 use borrow.Author.Needs.{needs}
 use borrow.Author.Tests.{lt-ltb, le-ltb}
 use Rattle.rules.proofs.Verdicts.{fine-then, refused-then, fine-unless, refused-unless}

@@ -1,13 +1,13 @@
 -- `list_questions::steps_up`: a refusal of the verdict is the outcome's; otherwise the index is whole, and it is asked by its parts. Assumes nothing.
 use Prim.Native.Nat.{ℕ}
-use mathlib.Core.Path.{_≡_, sym, _∙_}
+use mathlib.Core.Path.{sym, _∙_}
 use native.Mathlib.Omega.{arith}
 use borrow.Author.Needs.{needs}
 use denote.Ref.{now}
 use Rattle.rules.specs.Index.{Index, index}
 use Rattle.rules.specs.Questions.{kind15}
 use Rattle.arguments.proofs.Granted.{granted, unit-among}
-use Rattle.list_questions.proofs.Lists.{list-refused, list-answered}
+use Rattle.list_questions.proofs.Lists.{list-refusal, list-by-parts}
 use Rattle.list_questions.proofs.steps_up.Statement.{statement}
 use Rattle.list_questions.proofs.steps_up.Tie as tie
 
@@ -36,7 +36,7 @@ returns : tie.Need-returns
 returns c =
     let a = c .before .before .before in
     let j = a .before .before .judge in
-    list-refused (x a) (j .result) (j .ensures) (u a) _ _ _ _ (sym (a .one-unit .ensures) ∙ c .before .refusal .given .1)
+    list-refusal (x a) (j .result) (j .ensures) (u a) _ _ _ _ (sym (a .one-unit .ensures) ∙ c .before .refusal .given .1)
 
 cast-k : tie.Need-cast-k
 cast-k c = search needs
@@ -56,7 +56,7 @@ returns-2 c =
     let a = c .before .before .before .before .before .before .before .before in
     let j = a .before .before .judge in
     let fine = sym (a .one-unit .ensures) ∙ c .before .before .before .before .before .before .enum-told .given .1 in
-    list-answered (x a) (j .result) (j .ensures) (u a) fine kind15 _ _ _ (c .before .before .steps-up .ensures)
+    list-by-parts (x a) (j .result) (j .ensures) (u a) fine kind15 _ _ _ (c .before .before .steps-up .ensures)
 
 pub steps-up-spec : {M : Type 1} → statement M
 steps-up-spec =

@@ -1,13 +1,13 @@
 -- `number_questions::stage`: a refusal of the verdict is the outcome's; otherwise the index is whole, and it is asked by its parts. Assumes nothing.
 use Prim.Native.Nat.{ℕ}
-use mathlib.Core.Path.{_≡_, sym, _∙_}
+use mathlib.Core.Path.{sym, _∙_}
 use native.Mathlib.Omega.{arith}
 use borrow.Author.Needs.{needs}
 use denote.Ref.{now}
 use Rattle.rules.specs.Index.{Index, index}
 use Rattle.rules.specs.Questions.{kind16}
 use Rattle.arguments.proofs.Granted.{granted, unit-among}
-use Rattle.number_questions.proofs.Numbers.{unit-refused, unit-answered}
+use Rattle.number_questions.proofs.Numbers.{unit-refusal, unit-by-parts}
 use Rattle.number_questions.proofs.stage.Statement.{statement}
 use Rattle.number_questions.proofs.stage.Tie as tie
 
@@ -36,7 +36,7 @@ returns : tie.Need-returns
 returns c =
     let a = c .before .before .before in
     let j = a .before .before .judge in
-    unit-refused (x a) (j .result) (j .ensures) (u a) _ _ (sym (a .one-unit .ensures) ∙ c .before .refusal .given .1)
+    unit-refusal (x a) (j .result) (j .ensures) (u a) _ _ (sym (a .one-unit .ensures) ∙ c .before .refusal .given .1)
 
 cast-stage : tie.Need-cast-stage
 cast-stage c = search needs
@@ -53,7 +53,7 @@ returns-2 c =
     let a = c .before .before .before .before .before in
     let j = a .before .before .judge in
     let fine = sym (a .one-unit .ensures) ∙ c .before .before .before .enum-told .given .1 in
-    unit-answered (x a) (j .result) (j .ensures) (u a) fine kind16 _ (c .stage .ensures)
+    unit-by-parts (x a) (j .result) (j .ensures) (u a) fine kind16 _ (c .stage .ensures)
 
 pub stage-spec : {M : Type 1} → statement M
 stage-spec =

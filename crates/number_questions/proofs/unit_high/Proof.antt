@@ -1,13 +1,13 @@
 -- `number_questions::unit_high`: a refusal of the verdict is the outcome's; otherwise the index is whole, and it is asked by its parts. Assumes nothing.
 use Prim.Native.Nat.{ℕ}
-use mathlib.Core.Path.{_≡_, sym, _∙_}
+use mathlib.Core.Path.{sym, _∙_}
 use native.Mathlib.Omega.{arith}
 use borrow.Author.Needs.{needs}
 use denote.Ref.{now}
 use Rattle.rules.specs.Index.{Index, index}
 use Rattle.rules.specs.Questions.{kind18}
 use Rattle.arguments.proofs.Granted.{granted-track, unit-among}
-use Rattle.number_questions.proofs.Numbers.{bound-refused, bound-answered}
+use Rattle.number_questions.proofs.Numbers.{bound-refusal, bound-by-parts}
 use Rattle.number_questions.proofs.unit_high.Statement.{statement}
 use Rattle.number_questions.proofs.unit_high.Tie as tie
 
@@ -39,7 +39,7 @@ returns : tie.Need-returns
 returns c =
     let a = c .before .before .before in
     let j = a .before .before .judge in
-    bound-refused (x a) (j .result) (j .ensures) (u a) (q a) _ _ (sym (a .unit-and-track .ensures) ∙ c .before .refusal .given .1)
+    bound-refusal (x a) (j .result) (j .ensures) (u a) (q a) _ _ (sym (a .unit-and-track .ensures) ∙ c .before .refusal .given .1)
 
 cast-unit-high : tie.Need-cast-unit-high
 cast-unit-high c = search needs
@@ -58,7 +58,7 @@ returns-2 c =
     let a = c .before .before .before .before .before in
     let j = a .before .before .judge in
     let fine = sym (a .unit-and-track .ensures) ∙ c .before .before .before .enum-told .given .1 in
-    bound-answered (x a) (j .result) (j .ensures) (u a) (q a) fine kind18 _ (c .unit-high .ensures)
+    bound-by-parts (x a) (j .result) (j .ensures) (u a) (q a) fine kind18 _ (c .unit-high .ensures)
 
 pub unit-high-spec : {M : Type 1} → statement M
 unit-high-spec =

@@ -1,13 +1,13 @@
 -- `pair_questions::needs`: a refusal of the verdict is the outcome's; otherwise the index is whole, and it is asked by its parts. Assumes nothing.
 use Prim.Native.Nat.{ℕ}
-use mathlib.Core.Path.{_≡_, sym, _∙_}
+use mathlib.Core.Path.{sym, _∙_}
 use native.Mathlib.Omega.{arith}
 use borrow.Author.Needs.{needs}
 use denote.Ref.{now}
 use Rattle.rules.specs.Index.{Index, index}
 use Rattle.rules.specs.Questions.{kind10}
 use Rattle.arguments.proofs.Granted.{granted-units, unit-among}
-use Rattle.pair_questions.proofs.Pairs.{pair-refused, pair-answered}
+use Rattle.pair_questions.proofs.Pairs.{pair-refusal, pair-by-parts}
 use Rattle.pair_questions.proofs.needs.Statement.{statement}
 use Rattle.pair_questions.proofs.needs.Tie as tie
 
@@ -39,7 +39,7 @@ returns : tie.Need-returns
 returns c =
     let a = c .before .before .before in
     let j = a .before .before .judge in
-    pair-refused (x a) (j .result) (j .ensures) (u a) (v a) _ _ (sym (a .two-units .ensures) ∙ c .before .refusal .given .1)
+    pair-refusal (x a) (j .result) (j .ensures) (u a) (v a) _ _ (sym (a .two-units .ensures) ∙ c .before .refusal .given .1)
 
 cast-needs : tie.Need-cast-needs
 cast-needs c = search needs
@@ -64,7 +64,7 @@ returns-2 c =
     let a = c .before .before .before .before .before .before in
     let j = a .before .before .judge in
     let fine = sym (a .two-units .ensures) ∙ c .before .before .before .before .enum-told .given .1 in
-    pair-answered (x a) (j .result) (j .ensures) (u a) (v a) fine kind10 _ _ (c .before .needs .ensures) (c .yes-or-no .ensures)
+    pair-by-parts (x a) (j .result) (j .ensures) (u a) (v a) fine kind10 _ _ (c .before .needs .ensures) (c .yes-or-no .ensures)
 
 pub needs-spec : {M : Type 1} → statement M
 needs-spec =
