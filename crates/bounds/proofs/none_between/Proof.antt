@@ -53,7 +53,7 @@ here c =
     let l = c .before .before in
     let a = entry l .args in
     c .low-at .ensures
-    ∙ sym (low-there (lensOf (a .lens .now)) (a .k) (a .words .now) (a .p) (a .i) (l .loop .t) (c .before .loop-test .taken) (entry l .pre .0 .lengths .few-tracks))
+    ∙ sym (low-there (lensOf (a .lens .now)) (a .k) (a .words .now) (a .p) (a .i) (l .loop .t) (omega arith) (entry l .pre .0 .lengths .few-tracks))
 
 -- and its test, once it is a unit's, is whether that reaches
 there : (c : tie.After-reaches Inv-loop μ-loop) → c .reaches .result ≡ second (c .before .before .before .before) (c .before .before .before .before .loop .t)
@@ -75,7 +75,7 @@ reaches-requires c κs =
     let w = c .before in
     let l = w .before .before in
     let g = entry l in
-    let inside : l .loop .t < g .args .k = w .before .loop-test .taken in
+    let inside : l .loop .t < g .args .k = omega arith in
     let at = g .pre .1 .0 in
     let low = low-at-most (ones-true (g .pre .0)) (g .args .p) (l .loop .t) (at .in-track) inside (g .args .i) (at .from) (at .to) in
     (g .pre .0, (record { in-track = inside; from = omega arith; to = rw (w .low-at .ensures) low }, g .pre .1 .1))
@@ -87,7 +87,7 @@ returns c =
     let w = r .before .before in
     let l = w .before .before in
     sym
-    (never-not (first l) (second l) (entry l .args .k) (l .loop .t) (w .before .loop-test .taken)
+    (never-not (first l) (second l) (entry l .args .k) (l .loop .t) (omega arith)
     (le-leb 1 (getD (at l) (l .loop .t) 0) (omega (arith, here w, r .before .if1 .taken)))
     (sym (there r) ∙ c .if2 .taken))
 
