@@ -38,13 +38,6 @@ pub fn spot(tracks: &[u16], u: u16) -> Place
     }
 }
 
-// A length or a position as a usize.
-fn wide(number: u16) -> usize
-    ensures { λ r. ⌜ (r ≡ number) × (r < 65536) ⌝ }
-{
-    number as usize
-}
-
 // Position i of track p needs position j of track q.
 pub fn reaches(
     words: &[u64],
@@ -91,7 +84,7 @@ pub fn low_at(
     }
     let off = layout::vector_start(lens, row, k, p, q);
     let before = layout::vector_ones(lens, row, k, p, q);
-    let bits = wide(lens[p]) + wide(lens[q]);
+    let bits = layout::wide(lens[p]) + layout::wide(lens[q]);
     words::place_of_one(words, directory, off, bits, before, i) - i
 }
 
@@ -116,7 +109,7 @@ pub fn high_at(
     }
     let off = layout::vector_start(lens, row, k, q, p);
     let before = layout::vector_ones(lens, row, k, q, p);
-    let bits = wide(lens[q]) + wide(lens[p]);
+    let bits = layout::wide(lens[q]) + layout::wide(lens[p]);
     words::place_of_zero(words, directory, off, bits, before, i) - i + 1
 }
 
@@ -184,7 +177,7 @@ pub fn none_reaches(
 {
     let mut p: usize = 0;
     while p < k {
-        let i = wide(at[p]);
+        let i = layout::wide(at[p]);
         if i != 0 && reaches(words, directory, lens, row, k, p, i, q, j) {
             return false;
         }
@@ -239,8 +232,8 @@ pub fn reaches_none(
 {
     let mut q: usize = 0;
     while q < k {
-        let j = wide(at[q]);
-        if j <= wide(lens[q]) && reaches(words, directory, lens, row, k, p, i, q, j) {
+        let j = layout::wide(at[q]);
+        if j <= layout::wide(lens[q]) && reaches(words, directory, lens, row, k, p, i, q, j) {
             return false;
         }
         q += 1;

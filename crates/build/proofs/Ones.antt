@@ -20,7 +20,7 @@ use Rattle.rules.specs.Bits.{digit, bit, onesBefore}
 use Rattle.rules.specs.Index.{oneAt, builtBit, builtCount, builtWords, builtDirectory, builtWork, lensOf}
 use Rattle.rules.proofs.Ranges.{bit1-le, some-bit, some-same, length-table, getD-table, getD-rows}
 use Rattle.rules.proofs.Overs.{over-whole}
-use Rattle.rules.proofs.Bits.{Words, bit-le, words-same}
+use Rattle.rules.proofs.Bits.{Words, bit-le, words-by-bits}
 use Rattle.rules.proofs.Layouts.{offset-same, offset-within, vector-other, room-holds, words-hold, words-most, offset-last}
 use Rattle.rules.proofs.Layouts as layouts
 use Rattle.rules.proofs.Accepted.{Accepted}
@@ -29,7 +29,7 @@ use Rattle.rules.proofs.Bounds.{low-size, low-under, sound-own}
 use Rattle.rules.proofs.Builts.{length-words, words-built, bit-built, units-built, ones-few, length-work}
 use Rattle.layout.specs.Starts.{rowStarts}
 use Rattle.layout.proofs.Rows.{starts-at}
-use Rattle.rows.proofs.Areas.{row-end}
+use Rattle.rows.proofs.RowsWritten.{row-end}
 use Rattle.words.specs.Words.{withBit}
 use Rattle.words.proofs.WithBit.{bit-with-same, bit-with-other, length-with}
 use Rattle.build.specs.Ones.{oneOf, OnesSet, Given}
@@ -186,7 +186,7 @@ pub filled-all : (c : Listing) (words : List ℕ) (i : ℕ) → c .n ≤ i → F
 unfolding builtBit
 filled-all c words i h f =
     let e : i ≡ c .n = omega (arith, f .upto) in
-    words-same words (builtWords c) (f .long ∙ sym (length-words c)) (f .narrow) (words-built c) (λ x l.
+    words-by-bits words (builtWords c) (f .long ∙ sym (length-words c)) (f .narrow) (words-built c) (λ x l.
     f .each-bit x ∙ ap (λ m. bit1 (some (oneHere c x) m)) e ∙ sym (bit-built c x (omega (arith, f .long))))
 
 -- ---- the directory

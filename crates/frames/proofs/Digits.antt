@@ -47,27 +47,27 @@ back-next area r i j b n h l e =
 
 -- ---- units
 
-pub units-append : (us vs : List ℕ) → unitsOf (us ++ vs) ≡ unitsOf us ++ unitsOf vs
+pub text-append : (us vs : List ℕ) → unitsOf (us ++ vs) ≡ unitsOf us ++ unitsOf vs
 unfolding unitsOf
-units-append [] vs = refl
-units-append (u ∷ us) vs = rw (units-append us vs, append-assoc)
+text-append [] vs = refl
+text-append (u ∷ us) vs = rw (text-append us vs, append-assoc)
 
-pub units-none : unitsOf [] ≡ []
+pub text-none : unitsOf [] ≡ []
 unfolding unitsOf
-units-none = refl
+text-none = refl
 
-pub units-one : (u : ℕ) → unitsOf (u ∷ []) ≡ 32 ∷ hexOf 4 u
+pub text-one : (u : ℕ) → unitsOf (u ∷ []) ≡ 32 ∷ hexOf 4 u
 unfolding unitsOf
-units-one u = rw append-nil
+text-one u = rw append-nil
 
 -- one unit more: a space, and four digits
 module _ (us : List ℕ) (i : ℕ) (h : i < length us) where
   pub length-before : length (unitsOf (take i us)) ≡ 5 * i
   length-before = length-units (take i us) ∙ rw (length-take-le i us (omega arith))
 
-  pub units-next : unitsOf (take (i + 1) us) ≡ (unitsOf (take i us) ++ (32 ∷ [])) ++ hexOf 4 (getD us i 0)
-  units-next = rw (add-one, take-suc us i 0 h, units-append, units-one, append-assoc)
+  pub text-next : unitsOf (take (i + 1) us) ≡ (unitsOf (take i us) ++ (32 ∷ [])) ++ hexOf 4 (getD us i 0)
+  text-next = rw (add-one, take-suc us i 0 h, text-append, text-one, append-assoc)
 
-  pub units-space : (area : List ℕ) → 5 * i < length area
+  pub text-space : (area : List ℕ) → 5 * i < length area
       → set (over area (unitsOf (take i us))) (5 * i) 32 ≡ over area (unitsOf (take i us) ++ (32 ∷ []))
-  units-space area l = over-next area (unitsOf (take i us)) (5 * i) 32 length-before l
+  text-space area l = over-next area (unitsOf (take i us)) (5 * i) 32 length-before l

@@ -7,15 +7,15 @@ ghost use Rattle.rules.specs.Layout.{vectorRoom, offset};
 ghost use Rattle.rules.specs.Index.{lensOf};
 ghost use Rattle.layout.specs.Starts.{rowStarts};
 
-// A length as a number of bits.
-fn wide(length: u16) -> usize
-    ensures { λ r. ⌜ (r ≡ length) × (r < 65536) ⌝ }
+// A length or a position as a usize.
+pub fn wide(number: u16) -> usize
+    ensures { λ r. ⌜ (r ≡ number) × (r < 65536) ⌝ }
 {
-    length as usize
+    number as usize
 }
 
 // An entry of the table below as a number of bits or units.
-fn entry(number: u32) -> usize
+pub fn entry(number: u32) -> usize
     ensures { λ r. ⌜ (r ≡ number) × (r < 4294967296) ⌝ }
 {
     number as usize

@@ -1,5 +1,5 @@
 -- The laws that the proofs of this crate share.
-pub mod Areas
+pub mod RowsWritten
 pub mod UnitPairs
 pub mod Reaches
 pub mod Lows

@@ -19,7 +19,7 @@ use Rattle.rules.proofs.Tracks.{in-le, track-next}
 use Rattle.rules.proofs.Accepted.{Accepted}
 use Rattle.rules.proofs.Bounds.{reach, own-sound, low-under}
 use Rattle.rows.specs.Rows.{brings, pairsTo}
-use Rattle.rows.proofs.Areas.{row-end, entry-other}
+use Rattle.rows.proofs.RowsWritten.{row-end, entry-other}
 use Rattle.rows.proofs.UnitPairs.{to-all}
 use Rattle.rows.proofs.Reaches.{Reaches, brings-low, own-entry, other-entry}
 
@@ -57,7 +57,7 @@ module _ (p : ℕ → Bool) (n : ℕ) where
 -- ---- the rows while they are settled
 
 -- the rows of the first i units are as they were filled, those past them are settled
-pub record Settled (c : Listing) (work : List ℕ) (bad j i : ℕ) : Type 0 where
+pub record RowsSettled (c : Listing) (work : List ℕ) (bad j i : ℕ) : Type 0 where
   pub upto : i ≤ c .n
   pub work-long : length work ≡ c .n * c .k
   pub reached : Reaches c work i
@@ -66,7 +66,7 @@ pub record Settled (c : Listing) (work : List ℕ) (bad j i : ℕ) : Type 0 wher
   pub refused : FirstFrom (unsound c) (c .n) i bad
 
 module _ {c : Listing} (a : Accepted c) where
-  pub settled-start : (work : List ℕ) → work ≡ rows (λ i q. reach c (i + 1) q) (c .n) (c .k) → Settled c work (c .n) (pairs (c .needs)) (c .n)
+  pub settled-start : (work : List ℕ) → work ≡ rows (λ i q. reach c (i + 1) q) (c .n) (c .k) → RowsSettled c work (c .n) (pairs (c .needs)) (c .n)
   settled-start work e = record {
     upto = omega arith;
     work-long = rw e (length-rows (λ i q. reach c (i + 1) q) (c .k) (c .n));
@@ -77,7 +77,7 @@ module _ {c : Listing} (a : Accepted c) where
   }
 
   -- what the pairs of unit i + 1 bring to its own entry is its low, which is below its position
-  module _ {work : List ℕ} {bad j : ℕ} (i l : ℕ) (s : Settled c work bad j (i + 1))
+  module _ {work : List ℕ} {bad j : ℕ} (i l : ℕ) (s : RowsSettled c work bad j (i + 1))
       (is : l ≡ greatest (brings work (c .needs) (c .k) i (getD (c .tracks) i 0)) (pairs (c .needs))) where
     in-n : i < c .n
     in-n = omega (arith, s .upto)
@@ -107,7 +107,7 @@ module _ {c : Listing} (a : Accepted c) where
     refused-past e = from-past (unsound c) (c .n) i bad (s .refused) (own-test ∙ rw (eq-eqb _ _ e))
 
     pub settled-next : (bad′ j′ : ℕ) → FirstFrom (unsound c) (c .n) i bad′ → j′ ≡ pairsTo (c .needs) i
-        → Settled c (set work (i * c .k + getD (c .tracks) i 0) l) bad′ j′ i
+        → RowsSettled c (set work (i * c .k + getD (c .tracks) i 0) l) bad′ j′ i
     settled-next bad′ j′ f e = record {
       upto = omega (arith, in-n);
       work-long = length-set work _ _ ∙ s .work-long;
@@ -135,7 +135,7 @@ module _ {c : Listing} (a : Accepted c) where
             entry-other work v q i p (c .k) l m p-in (λ z. n (sym (z .0))) ∙ s .settled v q (omega (arith, n)) h m
 
   -- all rows are settled
-  pub settled-all : {work : List ℕ} {bad j i : ℕ} → Settled c work bad j i → i ≡ 0
+  pub settled-all : {work : List ℕ} {bad j i : ℕ} → RowsSettled c work bad j i → i ≡ 0
       → (bad ≡ first (unsound c) (c .n)) × (work ≡ builtWork c)
   unfolding builtWork
   settled-all {work} {bad} {j} {i} s e = (

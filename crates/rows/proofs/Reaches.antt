@@ -18,7 +18,7 @@ use Rattle.rules.proofs.Tracks.{in-none, in-next, track-next}
 use Rattle.rules.proofs.Accepted.{Accepted}
 use Rattle.rules.proofs.Bounds.{reach, rowTerm, low-row, reach-own, reach-other}
 use Rattle.rows.specs.Rows.{RowIs, brings, pairsTo}
-use Rattle.rows.proofs.Areas.{row-end, entry-other, rows-before}
+use Rattle.rows.proofs.RowsWritten.{row-end, entry-other, rows-before}
 use Rattle.rows.proofs.UnitPairs.{to-none, brings-own, brings-none}
 
 -- the rows of the first i units hold what a hop to them brings
@@ -56,7 +56,7 @@ module _ (c : Listing) (a : Accepted c) where
 -- ---- the rows while they are filled
 
 -- before unit i + 1: the rows so far, how many units of each track were seen, and the first pair that is left
-pub record Filled (c : Listing) (work seen : List ℕ) (j i : ℕ) : Type 0 where
+pub record RowsFilled (c : Listing) (work seen : List ℕ) (j i : ℕ) : Type 0 where
   pub upto : i ≤ c .n
   pub work-long : length work ≡ c .n * c .k
   pub reached : Reaches c work i
@@ -79,8 +79,8 @@ seen-next ts seen i p q e l h m b = go (ℕ-discrete p q)
         getD-set-other seen p q (getD seen p 0 + 1) 0 (λ s. n (sym s)) ∙ omega (arith, h q b, in-next ts q i)
 
 module _ {c : Listing} (a : Accepted c) where
-  pub filled-start : (work : List ℕ) → length work ≡ c .n * c .k → Filled c work (replicate 32 0) 0 0
-  filled-start work l = record {
+  pub rows-filled-start : (work : List ℕ) → length work ≡ c .n * c .k → RowsFilled c work (replicate 32 0) 0 0
+  rows-filled-start work l = record {
     upto = omega arith;
     work-long = l;
     reached = λ v q h. absurd (omega arith);
@@ -90,17 +90,17 @@ module _ {c : Listing} (a : Accepted c) where
   }
 
   -- the row of unit i + 1 is cleared, joined to those of its pairs, and gets the unit's position
-  pub filled-next : {work cleared row seen : List ℕ} {j i : ℕ} (j′ : ℕ) → Filled c work seen j i → i < c .n
+  pub rows-filled-next : {work cleared row seen : List ℕ} {j i : ℕ} (j′ : ℕ) → RowsFilled c work seen j i → i < c .n
       → RowIs work cleared (i * c .k) (c .k) (λ q. 0)
       → RowIs cleared row (i * c .k) (c .k) (λ q. greatest (brings cleared (c .needs) (c .k) i q) (pairs (c .needs)))
       → j′ ≡ pairsTo (c .needs) (i + 1)
-      → Filled
+      → RowsFilled
       c
       (set row (i * c .k + getD (c .tracks) i 0) (getD (set seen (getD (c .tracks) i 0) (getD seen (getD (c .tracks) i 0) 0 + 1)) (getD (c .tracks) i 0) 0))
       (set seen (getD (c .tracks) i 0) (getD seen (getD (c .tracks) i 0) 0 + 1))
       j′
       (i + 1)
-  filled-next {work} {cleared} {row} {seen} {j} {i} j′ f l r s e = record {
+  rows-filled-next {work} {cleared} {row} {seen} {j} {i} j′ f l r s e = record {
     upto = omega arith;
     work-long = length-set row _ _ ∙ s .same-length ∙ r .same-length ∙ f .work-long;
     reached = λ v q h. entry v q (decLt v i) h;
@@ -148,5 +148,5 @@ module _ {c : Listing} (a : Accepted c) where
       entry v q (no n) h m = let t : v ≡ i = omega arith in rw t (own q m (ℕ-discrete p q))
 
   -- all rows are filled
-  pub filled-all : {work seen : List ℕ} {j i : ℕ} → Filled c work seen j i → i ≡ c .n → work ≡ rows (λ i q. reach c (i + 1) q) (c .n) (c .k)
-  filled-all {work} f e = rows-is (λ i q. reach c (i + 1) q) (c .k) (c .n) work (f .work-long) (rw e at (f .reached))
+  pub rows-filled-all : {work seen : List ℕ} {j i : ℕ} → RowsFilled c work seen j i → i ≡ c .n → work ≡ rows (λ i q. reach c (i + 1) q) (c .n) (c .k)
+  rows-filled-all {work} f e = rows-is (λ i q. reach c (i + 1) q) (c .k) (c .n) work (f .work-long) (rw e at (f .reached))

@@ -14,7 +14,7 @@ use Rattle.rules.specs.Listing.{pairs, upper, lower}
 use Rattle.rules.proofs.Ranges.{first-le, first-before, first-met, greatest-next, greatest-zero, greatest-past}
 use Rattle.rules.proofs.Needs.{Pairs, Below, ascends-far}
 use Rattle.rows.specs.Rows.{RowIs, brings, pairsTo}
-use Rattle.rows.proofs.Areas.{row-end, joined, row-as-is, row-again}
+use Rattle.rows.proofs.RowsWritten.{row-end, joined, row-as-is, row-again}
 
 module _ {n : ℕ} {l : List ℕ} (ok : Pairs n l) where
   -- ---- the pairs of the units up to u come first

@@ -39,13 +39,13 @@ unfolding countedNeeds
 is-counted l e h = both-and (eq-eqb (length l % 2) 0 e) (le-leb (pairs l) maxNeeds h)
 
 -- what refusal 1 lets through
-pub record Limited (c : Listing) : Type 0 where
+pub record WithinLimits (c : Listing) : Type 0 where
   pub n-in : (1 ≤ c .n) × (c .n ≤ 1024)
   pub k-in : (1 ≤ c .k) × (c .k ≤ 32)
   pub counted : countedNeeds (c .needs) ≡ true
   pub tracks-long : length (c .tracks) ≡ c .n
 
-pub limits-in : (c : Listing) → inLimits c ≡ true → Limited c
+pub limits-in : (c : Listing) → inLimits c ≡ true → WithinLimits c
 unfolding inLimits
 limits-in c h =
     let r = and-both (within 1 maxUnits (c .n) && within 1 maxTracks (c .k) && countedNeeds (c .needs)) (eqb (length (c .tracks)) (c .n)) h in
@@ -58,7 +58,7 @@ limits-in c h =
       tracks-long = eqb-true (length (c .tracks)) (c .n) (r .1);
     }
 
-pub in-limits : (c : Listing) → Limited c → inLimits c ≡ true
+pub in-limits : (c : Listing) → WithinLimits c → inLimits c ≡ true
 unfolding inLimits
 in-limits c a =
     both-and
@@ -98,7 +98,7 @@ module _ (c : Listing) where
       d : (refuseFirst noUnit (c .k) EmptyTrack ≡ Fine) × (pairsVerdict (c .n) (c .needs) ≡ Fine)
       d = then-fine _ _ (b .1)
 
-      limited : Limited c
+      limited : WithinLimits c
       limited = limits-in c (unless-fine (inLimits c) OutOfLimits (a .0))
 
   pub fine-listing : Accepted c → listingVerdict c ≡ Fine
@@ -109,7 +109,7 @@ module _ (c : Listing) where
       ∙ fine-then _ (refuse-none noUnit (c .k) EmptyTrack (λ q l. ne-eqb (size (c .tracks) q) 0 (λ e. omega (arith, a .tracks-used q l))))
       ∙ fine-pairs (c .n) (c .needs) (a .needs-pairs)
     where
-      limited : Limited c
+      limited : WithinLimits c
       limited = record {
         n-in = a .n-in;
         k-in = a .k-in;

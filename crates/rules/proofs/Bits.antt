@@ -124,8 +124,8 @@ bit-in ws j i h =
     rw (q, r)
 
 -- words are their bits
-pub words-same : (l m : List ℕ) → length l ≡ length m → Words l → Words m → ((x : ℕ) → x < 64 * length l → bit l x ≡ bit m x) → l ≡ m
-words-same l m e hl hm h =
+pub words-by-bits : (l m : List ℕ) → length l ≡ length m → Words l → Words m → ((x : ℕ) → x < 64 * length l → bit l x ≡ bit m x) → l ≡ m
+words-by-bits l m e hl hm h =
     ext-getD 0 l m e (λ j q. digits-same (getD l j 0) (getD m j 0) (hl j) (hm j) (λ i r.
     sym (bit-in l j i r) ∙ h (64 * j + i) (omega arith) ∙ bit-in m j i r))
 

@@ -22,7 +22,7 @@ use Rattle.rules.proofs.Verdicts.{and-both, then-fine, unless-fine}
 use Rattle.rules.proofs.Accepted.{Accepted, listing-fine}
 use Rattle.rules.proofs.Wholes.{is-whole}
 use Rattle.rules.proofs.Builts.{length-words, length-directory, whole-built, count-built, low-built, high-built, kind10-built, kind11-built}
-use Rattle.rules.proofs.Areas.{SameBelow, whole-agree, low-in-agree, high-in-agree, kind10-agree, kind11-agree}
+use Rattle.rules.proofs.FirstWords.{SameBelow, whole-agree, low-in-agree, high-in-agree, kind10-agree, kind11-agree}
 
 -- a listing with areas in which its build is accepted
 pub record Build : Type 0 where

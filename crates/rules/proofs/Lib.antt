@@ -16,7 +16,7 @@ pub mod Bounds
 pub mod Vectors
 pub mod Wholes
 pub mod Builts
-pub mod Areas
+pub mod FirstWords
 pub mod Builds
 pub mod Redrawn
 pub mod Stages

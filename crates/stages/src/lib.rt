@@ -8,7 +8,7 @@ ghost use Rattle.rules.specs.Listing.{pairsVerdict};
 ghost use Rattle.stages.specs.Stages.{stageTable};
 
 // A unit that lists no need stands at stage 1, and so does each unit before the first pair.
-fn set_ones(stages: &mut [u16])
+fn start_stages(stages: &mut [u16])
     ensures { λ _. ⌜ now (stages .exit) ≡ table (λ i. 1) (length (now (stages .entry))) ⌝ }
 {
     let mut i: usize = 0;
@@ -24,7 +24,7 @@ pub fn fill_stages(needs: &[u16], stages: &mut [u16])
     requires { ⌜ (pairsVerdict (length (now stages)) (now needs) ≡ Fine) × (length (now stages) ≤ 1024) ⌝ }
     ensures { λ _. ⌜ now (stages .exit) ≡ stageTable (now (needs .entry)) (length (now (stages .entry))) ⌝ }
 {
-    set_ones(stages);
+    start_stages(stages);
     let pairs = needs.len() / 2;
     let mut j: usize = 0;
     while j < pairs {

@@ -56,16 +56,16 @@ seeks-last {part = part} s =
 -- ---- the loop
 
 -- the bits that are left are a power of two, and width is half of it
-pub record Spans (w i part left at width : ℕ) : Type 0 where
+pub record Halving (w i part left at width : ℕ) : Type 0 where
   pub power : ℕ
   pub half : width ≡ 2 ^ power / 2
   pub seeks : Seeks w i part left at (2 ^ power)
 
-pub spans-next : {w i part left at part′ left′ at′ width : ℕ} → Spans w i part left at width → 0 < width
-    → (Seeks w i part left at (2 * width) → Seeks w i part′ left′ at′ width) → Spans w i part′ left′ at′ (width / 2)
-spans-next {w} {i} {part} {left} {at} {part′} {left′} {at′} {width} s pos halving = go (s .power) (s .half) (s .seeks)
+pub halving-next : {w i part left at part′ left′ at′ width : ℕ} → Halving w i part left at width → 0 < width
+    → (Seeks w i part left at (2 * width) → Seeks w i part′ left′ at′ width) → Halving w i part′ left′ at′ (width / 2)
+halving-next {w} {i} {part} {left} {at} {part′} {left′} {at′} {width} s pos halving = go (s .power) (s .half) (s .seeks)
   where
-    go : (p : ℕ) → width ≡ 2 ^ p / 2 → Seeks w i part left at (2 ^ p) → Spans w i part′ left′ at′ (width / 2)
+    go : (p : ℕ) → width ≡ 2 ^ p / 2 → Seeks w i part left at (2 ^ p) → Halving w i part′ left′ at′ (width / 2)
     go zero e q = absurd (omega arith)
     go (suc k) e q =
         let half : width ≡ 2 ^ k = omega (arith, pow-suc 2 k) in
@@ -76,8 +76,8 @@ spans-next {w} {i} {part} {left} {at} {part′} {left′} {at′} {width} s pos 
           seeks = subst (Seeks w i part′ left′ at′) half (halving (subst (Seeks w i part left at) double q));
         }
 
-pub spans-last : {w i part left at width : ℕ} → Spans w i part left at width → width ≤ 0 → IsOne w i at
-spans-last {w} {i} {part} {left} {at} {width} s none = go (s .power) (s .half) (s .seeks)
+pub halving-last : {w i part left at width : ℕ} → Halving w i part left at width → width ≤ 0 → IsOne w i at
+halving-last {w} {i} {part} {left} {at} {width} s none = go (s .power) (s .half) (s .seeks)
   where
     go : (p : ℕ) → width ≡ 2 ^ p / 2 → Seeks w i part left at (2 ^ p) → IsOne w i at
     go zero e q = seeks-last q

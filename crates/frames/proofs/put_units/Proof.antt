@@ -10,7 +10,7 @@ use Rattle.rules.specs.Ranges.{over}
 use Rattle.rules.proofs.Overs.{length-over, over-none, part-back}
 use Rattle.frames.specs.Printed.{unitsOf, hexOf}
 use Rattle.frames.proofs.Lengths.{length-units}
-use Rattle.frames.proofs.Digits.{units-none, units-next, units-space, length-before}
+use Rattle.frames.proofs.Digits.{text-none, text-next, text-space, length-before}
 use Rattle.frames.proofs.put_units.Statement.{statement}
 use Rattle.frames.proofs.put_units.Tie as tie
 
@@ -21,7 +21,7 @@ abbrev μ-loop : tie.MeasureT-loop
 μ-loop out₀ units i₀ out i = length units - i
 
 loop-holds : tie.Need-loop-holds Inv-loop μ-loop
-loop-holds c = (omega arith, refl, rw units-none (over-none _))
+loop-holds c = (omega arith, refl, rw text-none (over-none _))
 
 mul-out : tie.Need-mul-out Inv-loop μ-loop
 mul-out c = omega arith
@@ -66,13 +66,13 @@ loop-again : tie.Need-loop-again Inv-loop μ-loop
 loop-again c =
     let area = c .before .before .before .before .before .before .before .before .before .args .out .now in
     let us = c .before .before .before .before .before .before .before .before .before .args .units .now in
-    let now = c .before .before .before .before .before .before .loop in
-    let xs = unitsOf (take (now .i) us) ++ (32 ∷ []) in
-    let space : set (now .out) (5 * now .i) 32 ≡ over area xs = rw (now .inv .2) (units-space us (now .i) (omega arith) area (omega arith)) in
-    let n : length xs ≡ 5 * now .i + 1 = rw length-append (omega (arith, length-before us (now .i) (omega arith))) in
-    let unit = part-back area xs (hexOf 4 (getD us (now .i) 0)) _ _ (5 * now .i + 1) space n (c .before .before .put-hex .ensures) in
-    let written = unit ∙ ap (over area) (sym (units-next us (now .i) (omega arith))) in
-    let long = length-over area (unitsOf (take (now .i + 1) us)) (omega (arith, length-units (take (now .i + 1) us), length-take-le (now .i + 1) us (omega arith))) in
+    let at = c .before .before .before .before .before .before .loop in
+    let xs = unitsOf (take (at .i) us) ++ (32 ∷ []) in
+    let space : set (at .out) (5 * at .i) 32 ≡ over area xs = rw (at .inv .2) (text-space us (at .i) (omega arith) area (omega arith)) in
+    let n : length xs ≡ 5 * at .i + 1 = rw length-append (omega (arith, length-before us (at .i) (omega arith))) in
+    let unit = part-back area xs (hexOf 4 (getD us (at .i) 0)) _ _ (5 * at .i + 1) space n (c .before .before .put-hex .ensures) in
+    let written = unit ∙ ap (over area) (sym (text-next us (at .i) (omega arith))) in
+    let long = length-over area (unitsOf (take (at .i + 1) us)) (omega (arith, length-units (take (at .i + 1) us), length-take-le (at .i + 1) us (omega arith))) in
     (omega arith, ap length written ∙ long, written)
 
 same-length : tie.Need-same-length Inv-loop μ-loop

@@ -14,14 +14,14 @@ use Rattle.known.proofs.highest_step.Tie as tie
 abbrev entry : tie.After-spot → tie.Start
 entry c = c .before .before .before .before
 
-abbrev asked : tie.Start → Index
-asked g = parts (g .args .lens .now) (g .args .k) (g .args .tracks .now) (g .args .words .now) (g .args .directory .now)
+abbrev lentIndex : tie.Start → Index
+lentIndex g = parts (g .args .lens .now) (g .args .k) (g .args .tracks .now) (g .args .words .now) (g .args .directory .now)
 
-lows-are : (c : tie.After-lows) → let g = entry (c .before) in c .lows .result ≡ lowsOf (asked g) (g .args .u)
+lows-are : (c : tie.After-lows) → let g = entry (c .before) in c .lows .result ≡ lowsOf (lentIndex g) (g .args .u)
 lows-are c = rw (c .before .spot .ensures) at (c .lows .ensures)
 
 spans-are : (c : tie.After-steps-at)
-    → let g = entry (c .before .before .before) in _≡_ {A = Spans} (c .steps-at .result) (record { from = stepsFrom (asked g) (g .args .u); to = stepsTo (asked g) (g .args .u) })
+    → let g = entry (c .before .before .before) in _≡_ {A = Spans} (c .steps-at .result) (record { from = stepsFrom (lentIndex g) (g .args .u); to = stepsTo (lentIndex g) (g .args .u) })
 spans-are c = c .steps-at .ensures ∙ rw (lows-are (c .before .before))
 
 spot-requires : tie.Need-spot-requires

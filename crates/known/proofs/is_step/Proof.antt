@@ -19,11 +19,11 @@ use Rattle.known.proofs.is_step.Tie as tie
 abbrev entry : tie.After-spot2 → tie.Start
 entry c = c .before .before .before .before .before
 
-abbrev asked : tie.Start → Index
-asked g = parts (g .args .lens .now) (g .args .k) (g .args .tracks .now) (g .args .words .now) (g .args .directory .now)
+abbrev lentIndex : tie.Start → Index
+lentIndex g = parts (g .args .lens .now) (g .args .k) (g .args .tracks .now) (g .args .words .now) (g .args .directory .now)
 
 -- whether u needs v
-reached : (c : tie.After-reaches) → let g = entry (c .before) in c .reaches .result ≡ kind10 (asked g) (g .args .u) (g .args .v)
+reached : (c : tie.After-reaches) → let g = entry (c .before) in c .reaches .result ≡ kind10 (lentIndex g) (g .args .u) (g .args .v)
 unfolding kind10By
 reached c = rw (c .before .before .spot .ensures, c .before .spot2 .ensures) at (c .reaches .ensures)
 
@@ -50,7 +50,7 @@ reaches-requires c κs =
 returns : tie.Need-returns
 returns c =
     let g = entry (c .before .before) in
-    sym (step-no (asked g) (g .args .u) (g .args .v) (sym (reached (c .before)) ∙ not-true _ (c .if1 .taken)))
+    sym (step-no (lentIndex g) (g .args .u) (g .args .v) (sym (reached (c .before)) ∙ not-true _ (c .if1 .taken)))
 
 none-between-requires : tie.Need-none-between-requires
 none-between-requires c κs =

@@ -11,10 +11,10 @@ use Rattle.known.proofs.needed.Tie as tie
 abbrev entry : tie.After-spot → tie.Start
 entry c = c .before .before .before .before .before
 
-abbrev asked : tie.Start → Index
-asked g = parts (g .args .lens .now) (g .args .k) (g .args .tracks .now) (g .args .words .now) (g .args .directory .now)
+abbrev lentIndex : tie.Start → Index
+lentIndex g = parts (g .args .lens .now) (g .args .k) (g .args .tracks .now) (g .args .words .now) (g .args .directory .now)
 
-lows-are : (c : tie.After-lows) → let g = entry (c .before) in c .lows .result ≡ lowsOf (asked g) (g .args .u)
+lows-are : (c : tie.After-lows) → let g = entry (c .before) in c .lows .result ≡ lowsOf (lentIndex g) (g .args .u)
 lows-are c = rw (c .before .spot .ensures) at (c .lows .ensures)
 
 spot-requires : tie.Need-spot-requires

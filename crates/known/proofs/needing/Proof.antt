@@ -11,10 +11,10 @@ use Rattle.known.proofs.needing.Tie as tie
 abbrev entry : tie.After-spot → tie.Start
 entry c = c .before .before .before .before .before
 
-abbrev asked : tie.Start → Index
-asked g = parts (g .args .lens .now) (g .args .k) (g .args .tracks .now) (g .args .words .now) (g .args .directory .now)
+abbrev lentIndex : tie.Start → Index
+lentIndex g = parts (g .args .lens .now) (g .args .k) (g .args .tracks .now) (g .args .words .now) (g .args .directory .now)
 
-highs-are : (c : tie.After-highs) → let g = entry (c .before) in c .highs .result ≡ highsOf (asked g) (g .args .u)
+highs-are : (c : tie.After-highs) → let g = entry (c .before) in c .highs .result ≡ highsOf (lentIndex g) (g .args .u)
 highs-are c = rw (c .before .spot .ensures) at (c .highs .ensures)
 
 spot-requires : tie.Need-spot-requires

@@ -12,14 +12,14 @@ use Rattle.known.proofs.steps_up.Tie as tie
 abbrev entry : tie.After-spot → tie.Start
 entry c = c .before .before .before .before .before
 
-abbrev asked : tie.Start → Index
-asked g = parts (g .args .lens .now) (g .args .k) (g .args .tracks .now) (g .args .words .now) (g .args .directory .now)
+abbrev lentIndex : tie.Start → Index
+lentIndex g = parts (g .args .lens .now) (g .args .k) (g .args .tracks .now) (g .args .words .now) (g .args .directory .now)
 
-highs-are : (c : tie.After-highs) → let g = entry (c .before) in c .highs .result ≡ highsOf (asked g) (g .args .u)
+highs-are : (c : tie.After-highs) → let g = entry (c .before) in c .highs .result ≡ highsOf (lentIndex g) (g .args .u)
 highs-are c = rw (c .before .spot .ensures) at (c .highs .ensures)
 
 spans-are : (c : tie.After-steps-up-at)
-    → let g = entry (c .before .before .before) in _≡_ {A = Spans} (c .steps-up-at .result) (record { from = stepsUpFrom (asked g) (g .args .u); to = stepsUpTo (asked g) (g .args .u) })
+    → let g = entry (c .before .before .before) in _≡_ {A = Spans} (c .steps-up-at .result) (record { from = stepsUpFrom (lentIndex g) (g .args .u); to = stepsUpTo (lentIndex g) (g .args .u) })
 spans-are c = c .steps-up-at .ensures ∙ rw (highs-are (c .before .before))
 
 spot-requires : tie.Need-spot-requires

@@ -15,7 +15,7 @@ use Rattle.rules.specs.Ranges.{first}
 use Rattle.rules.specs.Listing.{Listing, listing, size, inLimits, refuseFirst, listingVerdict}
 use Rattle.rules.proofs.Ranges.{not-both, first-same, getD-table}
 use Rattle.rules.proofs.Verdicts.{not-yes, fine-then, refused-then, fine-unless, refused-unless, refuse-fine, refuse-at, refuse-end}
-use Rattle.rules.proofs.Accepted.{Limited, limits-in, in-limits, counted-is, noTrack, noUnit}
+use Rattle.rules.proofs.Accepted.{WithinLimits, limits-in, in-limits, counted-is, noTrack, noUnit}
 use Rattle.listing.proofs.check.Statement.{statement}
 use Rattle.listing.proofs.check.Tie as tie
 
@@ -37,7 +37,7 @@ returns c =
     k : ℕ
     k = c .before .before .before .args .k
 
-    out : Limited (lent (c .before .before .before)) → ⊥
+    out : WithinLimits (lent (c .before .before .before)) → ⊥
     out a =
         ⊎-elim
         (λ w. omega arith)
@@ -55,7 +55,7 @@ returns-2 c =
     let s = c .before .before .before .before .before .before .before .before in
     sym (refused-then _ (refused-unless OutOfLimits (not-yes (inLimits (lent s)) (λ t. out (limits-in (lent s) t)))))
   where
-    out : Limited (lent (c .before .before .before .before .before .before .before .before)) → ⊥
+    out : WithinLimits (lent (c .before .before .before .before .before .before .before .before)) → ⊥
     out a =
         ⊎-elim
         (λ w. not-both (c .before .counted .ensures ∙ a .counted) (not-true _ (w .taken)))
@@ -66,7 +66,7 @@ abbrev start : tie.Else6 → tie.Start
 start c = c .before .before .before .before .before .before .before .before .before
 
 -- past both tests the listing is within the limits
-limited : (c : tie.Else6) → Limited (lent (start c))
+limited : (c : tie.Else6) → WithinLimits (lent (start c))
 limited c = record {
   n-in = (omega (arith, c .before .before .before .before .before .before .if1 .left), ltb-false 1024 n (c .before .before .before .before .before .if2 .left));
   k-in = (omega (arith, eqb-false k 0 (c .before .before .before .before .if3 .left)), ltb-false 32 k (c .before .before .before .if4 .left));
@@ -118,7 +118,7 @@ track-lengths-requires c κs = (omega (arith, l .tracks-long, l .n-in), below)
     a : Listing
     a = lent (start (c .before .before))
 
-    l : Limited (lent (start (c .before .before)))
+    l : WithinLimits (lent (start (c .before .before)))
     l = limited (c .before .before)
 
     below : (i : ℕ) → i < length (a .tracks) → getD (a .tracks) i 0 < 32

@@ -3,7 +3,7 @@ use Prim.Native.Nat.{_-_, _≤_}
 use mathlib.Core.Path.{_≡_, refl}
 use native.Mathlib.Omega.{arith}
 use Rattle.rows.specs.Rows.{RowIs}
-use Rattle.rows.proofs.Areas.{row-start, row-write}
+use Rattle.rows.proofs.RowsWritten.{row-start, row-write}
 use Rattle.rows.proofs.clear_row.Statement.{statement}
 use Rattle.rows.proofs.clear_row.Tie as tie
 

@@ -6,19 +6,19 @@ use lib.ListN.{length, getD}
 use Rattle.rules.specs.Listing.{listing}
 use Rattle.rules.proofs.Needs.{pairs-wider}
 use Rattle.rules.proofs.Tracks.{in-le}
-use Rattle.rows.proofs.Areas.{row-end}
-use Rattle.rows.proofs.Reaches.{Filled, filled-start, filled-next, filled-all}
+use Rattle.rows.proofs.RowsWritten.{row-end}
+use Rattle.rows.proofs.Reaches.{RowsFilled, rows-filled-start, rows-filled-next, rows-filled-all}
 use Rattle.rows.proofs.fill_rows.Statement.{statement}
 use Rattle.rows.proofs.fill_rows.Tie as tie
 
 abbrev Inv-loop : tie.InvT-loop
-Inv-loop tracks needs work₀ k seen₀ j₀ i₀ work seen j i = Filled (listing (length tracks) k tracks needs) work seen j i
+Inv-loop tracks needs work₀ k seen₀ j₀ i₀ work seen j i = RowsFilled (listing (length tracks) k tracks needs) work seen j i
 
 abbrev μ-loop : tie.MeasureT-loop
 μ-loop tracks needs work₀ k seen₀ j₀ i₀ work seen j i = length tracks - i
 
 loop-holds : tie.Need-loop-holds Inv-loop μ-loop
-loop-holds c = filled-start (c .before .before .before .pre .0) (c .before .before .before .args .work .now) (c .before .before .before .pre .1)
+loop-holds c = rows-filled-start (c .before .before .before .pre .0) (c .before .before .before .args .work .now) (c .before .before .before .pre .1)
 
 abbrev start : tie.In-loop Inv-loop μ-loop → tie.Start Inv-loop μ-loop
 start c = c .before .before .before .before .before
@@ -112,13 +112,13 @@ loop-less c = omega arith
 
 loop-again : tie.Need-loop-again Inv-loop μ-loop
 loop-again c =
-    filled-next (start (turn c) .pre .0) _ (turn c .before .loop .inv) (omega arith) (c .before .before .before .before .before .before .before .clear-row .ensures) (c .before .before .before .join-pairs .ensures .1) (c .before .before .before .join-pairs .ensures .0)
+    rows-filled-next (start (turn c) .pre .0) _ (turn c .before .loop .inv) (omega arith) (c .before .before .before .before .before .before .before .clear-row .ensures) (c .before .before .before .join-pairs .ensures .1) (c .before .before .before .join-pairs .ensures .0)
 
 same-length : tie.Need-same-length Inv-loop μ-loop
 same-length c = omega (arith, c .before .loop .inv .work-long, c .before .before .before .before .before .pre .1)
 
 returns : tie.Need-returns Inv-loop μ-loop
-returns c = filled-all (c .before .before .before .before .before .pre .0) (c .before .loop .inv) (omega arith)
+returns c = rows-filled-all (c .before .before .before .before .before .pre .0) (c .before .loop .inv) (omega arith)
 
 pub fill-rows-spec : {M : Type 1} → statement M
 fill-rows-spec =

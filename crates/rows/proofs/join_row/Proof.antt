@@ -5,7 +5,7 @@ use mathlib.Core.Path.{_≡_}
 use native.Mathlib.Omega.{arith}
 use borrow.Author.Needs.{needs}
 use Rattle.rows.specs.Rows.{RowIs}
-use Rattle.rows.proofs.Areas.{row-start, joined, join-write}
+use Rattle.rows.proofs.RowsWritten.{row-start, joined, join-write}
 use Rattle.rows.proofs.join_row.Statement.{statement}
 use Rattle.rows.proofs.join_row.Tie as tie
 

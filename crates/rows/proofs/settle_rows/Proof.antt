@@ -7,14 +7,14 @@ use native.Mathlib.Omega.{arith}
 use lib.ListN.{length, getD, length-set}
 use Rattle.rules.specs.Listing.{listing}
 use Rattle.rules.proofs.Needs.{pairs-wider}
-use Rattle.rows.proofs.Areas.{row-end}
-use Rattle.rows.proofs.Lows.{Settled, settled-start, own-under, refused-here, refused-past, settled-next, settled-all}
+use Rattle.rows.proofs.RowsWritten.{row-end}
+use Rattle.rows.proofs.Lows.{RowsSettled, settled-start, own-under, refused-here, refused-past, settled-next, settled-all}
 use Rattle.rows.proofs.settle_rows.Statement.{statement}
 use Rattle.rows.proofs.settle_rows.Tie as tie
 
 abbrev Inv-loop : tie.InvT-loop
 Inv-loop tracks needs work₀ k bad₀ j₀ i₀ work bad j i =
-    (length work ≡ length work₀) × Settled (listing (length tracks) k tracks needs) work bad j i
+    (length work ≡ length work₀) × RowsSettled (listing (length tracks) k tracks needs) work bad j i
 
 abbrev μ-loop : tie.MeasureT-loop
 μ-loop tracks needs work₀ k bad₀ j₀ i₀ work bad j i = i
@@ -27,7 +27,7 @@ start c = c .before .before .before .before .before
 
 -- in a turn: the invariant, of the unit below i
 above : (c : tie.In-loop Inv-loop μ-loop)
-    → Settled
+    → RowsSettled
     (listing (length (start c .args .tracks .now)) (start c .args .k) (start c .args .tracks .now) (start c .args .needs .now))
     (c .before .loop .work)
     (c .before .loop .bad)

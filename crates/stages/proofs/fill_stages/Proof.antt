@@ -21,8 +21,8 @@ abbrev entry : tie.At-loop Inv-loop μ-loop → tie.Start Inv-loop μ-loop
 entry l = l .before .before .before .before .before .before .before
 
 -- the entries keep their number
-long : (l : tie.At-loop Inv-loop μ-loop) → length (l .before .before .before .set-ones .last .0) ≡ length (entry l .args .stages .now)
-long l = ap length (l .before .before .before .set-ones .ensures) ∙ length-table _ _
+long : (l : tie.At-loop Inv-loop μ-loop) → length (l .before .before .before .start-stages .last .0) ≡ length (entry l .args .stages .now)
+long l = ap length (l .before .before .before .start-stages .ensures) ∙ length-table _ _
 
 filled : (l : tie.At-loop Inv-loop μ-loop) → l .loop .stages ≡ stagesBy (entry l .args .needs .now) (l .loop .j) (length (entry l .args .stages .now))
 filled l = rw (long l) at (l .loop .inv .1)
@@ -52,11 +52,11 @@ pair-in c =
     let all = entry (c .before) .pre .1 in
     (low .0, p .goes-down j (inside c), omega (arith, up, long-now (c .before)), omega (arith, all, long-now (c .before)), omega (arith, all, least), omega (arith, all, most))
 
-set-ones-requires : tie.Need-set-ones-requires Inv-loop μ-loop
-set-ones-requires c κs = search needs
+start-stages-requires : tie.Need-start-stages-requires Inv-loop μ-loop
+start-stages-requires c κs = search needs
 
 loop-holds : tie.Need-loop-holds Inv-loop μ-loop
-loop-holds c = (omega arith, stages-none _ _ (c .before .before .set-ones .ensures))
+loop-holds c = (omega arith, stages-none _ _ (c .before .before .start-stages .ensures))
 
 mul-u : tie.Need-mul-u Inv-loop μ-loop
 mul-u c = omega arith
@@ -131,7 +131,7 @@ fill-stages-spec =
     (tie.spec
     Inv-loop
     μ-loop
-    set-ones-requires
+    start-stages-requires
     loop-holds
     mul-u
     mul-u-2

@@ -1,12 +1,12 @@
 -- `words::one_in_word`: the bits that are left are halved until one is left. Assumes nothing.
 use mathlib.Core.Path.{refl}
 use native.Mathlib.Omega.{arith}
-use Rattle.words.proofs.Halves.{Spans, seeks-all, spans-next, spans-last}
+use Rattle.words.proofs.Halves.{Halving, seeks-all, halving-next, halving-last}
 use Rattle.words.proofs.one_in_word.Statement.{statement}
 use Rattle.words.proofs.one_in_word.Tie as tie
 
 abbrev Inv-loop : tie.InvT-loop
-Inv-loop w i part₀ width₀ part width = Spans w i (part .word) (part .left) (part .at) width
+Inv-loop w i part₀ width₀ part width = Halving w i (part .word) (part .left) (part .at) width
 
 abbrev μ-loop : tie.MeasureT-loop
 μ-loop w i part₀ width₀ part width = width
@@ -25,10 +25,10 @@ loop-less : tie.Need-loop-less Inv-loop μ-loop
 loop-less c = omega arith
 
 loop-again : tie.Need-loop-again Inv-loop μ-loop
-loop-again c = spans-next (c .before .before .loop .inv) (c .before .loop-test .taken) (c .halved .ensures (c .before .before .before .args .w) (c .before .before .before .args .i))
+loop-again c = halving-next (c .before .before .loop .inv) (c .before .loop-test .taken) (c .halved .ensures (c .before .before .before .args .w) (c .before .before .before .args .i))
 
 returns : tie.Need-returns Inv-loop μ-loop
-returns c = spans-last (c .before .loop .inv) (c .loop-test .left)
+returns c = halving-last (c .before .loop .inv) (c .loop-test .left)
 
 pub one-in-word-spec : {M : Type 1} → statement M
 one-in-word-spec =

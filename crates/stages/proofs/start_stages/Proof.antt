@@ -1,12 +1,12 @@
--- `stages::set_ones`: after i turns the first i entries are 1. Assumes nothing.
+-- `stages::start_stages`: after i turns the first i entries are 1. Assumes nothing.
 use Prim.Native.Nat.{ℕ, _-_, _≤_, _<_}
 use mathlib.Core.Path.{_≡_}
 use native.Mathlib.Omega.{arith}
 use lib.ListN.{length, getD, length-set}
 use Rattle.rules.proofs.Ranges.{table-is}
 use Rattle.stages.proofs.Lasts.{ones-next}
-use Rattle.stages.proofs.set_ones.Statement.{statement}
-use Rattle.stages.proofs.set_ones.Tie as tie
+use Rattle.stages.proofs.start_stages.Statement.{statement}
+use Rattle.stages.proofs.start_stages.Tie as tie
 
 abbrev Inv-loop : tie.InvT-loop
 Inv-loop stages₀ i₀ stages i = (i ≤ length stages₀) × (length stages ≡ length stages₀) × ((j : ℕ) → j < i → getD stages j 0 ≡ 1)
@@ -38,8 +38,8 @@ same-length c = omega arith
 returns : tie.Need-returns Inv-loop μ-loop
 returns c = table-is _ _ _ (omega arith) (λ j l. c .before .loop .inv .2 j (omega arith))
 
-pub set-ones-spec : {M : Type 1} → statement M
-set-ones-spec =
+pub start-stages-spec : {M : Type 1} → statement M
+start-stages-spec =
     tie.close
     (tie.spec
     Inv-loop
