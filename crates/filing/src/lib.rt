@@ -31,13 +31,6 @@ pub fn need_frame(card: Card, u: u16, v: u16, needs: &mut [u16], out: &mut [u8])
     }
 }
 
-// A bit's number as a size.
-fn wide(bit: u32) -> usize
-    ensures { λ r. ⌜ (r ≡ bit) × (r < 4294967296) ⌝ }
-{
-    bit as usize
-}
-
 // The index lies in the areas, and the questions come next.
 fn load(card: Card, lens: [u16; 32], bits: u32, out: &mut [u8]) -> Step
     requires { ⌜ (card .k ≤ 32) × (20 ≤ length (now out)) ⌝ }
@@ -47,7 +40,7 @@ fn load(card: Card, lens: [u16; 32], bits: u32, out: &mut [u8]) -> Step
     let row = layout::row_starts(&lens, k);
     let wrote = frames::put_built(out, bits);
     let mut next = reading::in_phase(card, Phase::Asking);
-    next.count = (wide(row[k]) + 63) / 64;
+    next.count = (layout::entry(row[k]) + 63) / 64;
     next.lens = lens;
     next.row = row;
     Step { card: next, wrote }

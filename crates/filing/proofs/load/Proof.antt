@@ -16,14 +16,14 @@ put-built-requires c κs = search needs
 in-phase-requires : tie.Need-in-phase-requires
 in-phase-requires c κs = search needs
 
-mul-wide : tie.Need-mul-wide
-mul-wide c = search needs
+mul-entry : tie.Need-mul-entry
+mul-entry c = search needs
 
-array-read-wide : tie.Need-array-read-wide
-array-read-wide c = search needs
+array-read-entry : tie.Need-array-read-entry
+array-read-entry c = search needs
 
-wide-requires : tie.Need-wide-requires
-wide-requires c κs = search needs
+entry-requires : tie.Need-entry-requires
+entry-requires c κs = search needs
 
 add-next : tie.Need-add-next
 add-next c = search needs
@@ -34,7 +34,7 @@ same-length c = search needs
 returns : tie.Need-returns
 returns c =
     let said = c .before .before .before .before .put-built .ensures in
-    (rw (c .before .in-phase .ensures, c .wide .ensures .0, c .before .before .before .before .before .before .row-starts .ensures, said .0), said .1)
+    (rw (c .before .in-phase .ensures, c .entry .ensures .0, c .before .before .before .before .before .before .row-starts .ensures, said .0), said .1)
 
 pub load-spec : {M : Type 1} → statement M
 load-spec =
@@ -44,9 +44,9 @@ load-spec =
     row-starts-requires
     put-built-requires
     in-phase-requires
-    mul-wide
-    array-read-wide
-    wide-requires
+    mul-entry
+    array-read-entry
+    entry-requires
     add-next
     same-length
     returns)
