@@ -102,12 +102,12 @@ uint32_t ngolishepa_version(void);
 
 /* ---- a listing */
 
-/* Checks a listing: refusals 1 to 5, in the order of their numbers. Writes nothing. Costs one pass over each list. */
+/* Checks a listing: refusals 1 to 5, in the order of their numbers. Writes nothing. Costs two passes over each list. */
 ngolishepa_refusal ngolishepa_check_listing(uint16_t n, uint16_t k, const uint16_t *tracks, size_t tracks_len,
                                             const uint16_t *needs, size_t needs_len);
 
 /* Where in the need list the pairs stand that begin with the unit. Refusals 8 (place 1), 1, 4 or 5, in that order, for
- * n = 1,024. Writes nothing. Costs one pass over the list. */
+ * n = 1,024. Writes nothing. Costs four passes over the list. */
 ngolishepa_part_answer ngolishepa_part(const uint16_t *needs, size_t needs_len, uint16_t unit);
 
 /* ---- the index */
@@ -120,21 +120,22 @@ ngolishepa_built ngolishepa_build(uint16_t n, uint16_t k, const uint16_t *tracks
                                   size_t needs_len, uint64_t *words, size_t words_len, uint16_t *directory,
                                   size_t directory_len, uint16_t *work, size_t work_len);
 
-/* Judges any index: refusal 9 where it is not whole. Writes nothing. Costs one pass over the track list and the first W
- * entries of each area, and one look for each vector. */
+/* Judges any index: refusal 9 where it is not whole. Writes nothing. Costs two passes over the track list, one over the
+ * first W entries of each area, and one look for each of the k * (k-1) vectors. */
 ngolishepa_refusal ngolishepa_check_index(ngolishepa_head head, const uint16_t *tracks, size_t tracks_len,
                                           const uint64_t *words, size_t words_len, const uint16_t *directory,
                                           size_t directory_len);
 
 /* ---- the questions: refusal 9, then 8; each judges the index first, which costs what ngolishepa_check_index costs, and
- * then finds its units in the track list, in one pass up to each */
+ * then finds its units in the track list, in one pass up to each. A look counts the ones before a bit, by one entry of the
+ * directory and one word; a select finds a one or a zero by its number, by halving the directory and then a word. */
 
 /* Kind 10: u needs v. Beside the judging it costs one look. */
 ngolishepa_pair_answer ngolishepa_needs(ngolishepa_head head, const uint16_t *tracks, size_t tracks_len,
                                         const uint64_t *words, size_t words_len, const uint16_t *directory,
                                         size_t directory_len, uint16_t u, uint16_t v);
 
-/* Kind 11: v is a direct step of u. Beside the judging it costs k looks. */
+/* Kind 11: v is a direct step of u. Beside the judging it costs at most k selects and k looks. */
 ngolishepa_pair_answer ngolishepa_is_step(ngolishepa_head head, const uint16_t *tracks, size_t tracks_len,
                                           const uint64_t *words, size_t words_len, const uint16_t *directory,
                                           size_t directory_len, uint16_t u, uint16_t v);
