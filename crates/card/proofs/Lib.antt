@@ -2,3 +2,4 @@
 pub mod Files
 pub mod Turns
 pub mod Runs
+pub mod RefusedLines
