@@ -3,3 +3,4 @@ pub mod Files
 pub mod Turns
 pub mod Runs
 pub mod RefusedLines
+pub mod LineRefusals
