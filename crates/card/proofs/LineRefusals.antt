@@ -25,7 +25,10 @@ use Rattle.rules.specs.Questions.{kind10, kind11, kind12, kind13, kind14, kind1
 use Rattle.rules.specs.Outcomes.{pairOutcome, unitOutcome, boundOutcome}
 use Rattle.rules.proofs.Ranges.{true-or-false, not-both}
 use Rattle.rules.proofs.Verdicts.{and-both, both-and, and-no, no-and, within-is, is-within, then-fine}
-use Rattle.rules.proofs.Checks.{Off, within-fails, and-fails, then-refused}
+use Rattle.rules.proofs.Checks.{Off, Fails, passes, within-fails, and-fails, then-refused, then-never}
+use Rattle.rules.proofs.Accepted.{listing-fine}
+use Rattle.rules.proofs.Cases.{sound-never, sound-at}
+use Rattle.rules.proofs.Refusing.{listing-1, listing-2, listing-3, listing-4, listing-5, listing-others}
 use Rattle.frames.specs.declared.Frame.{Frame}
 use Rattle.frames.specs.declared.Line.{Line}
 use Rattle.frames.specs.declared.Line.the-variants.{IsFrame, NoFrame}
@@ -35,6 +38,7 @@ use Rattle.reading.specs.declared.Phase.{Phase}
 use Rattle.reading.specs.declared.Phase.the-variants.{Head, Tracks, Needs, Asking, Stopped}
 use Rattle.reading.specs.Card.{Reading, Next, listingOf, readIndex, goOn, refuse, misplaced, headFrame, trackFrame, needFrame, loaded, endFrame, answered, listPrinted, questionFrame, frameInPhase, counted, reads, readLine, unfinished, start}
 use Rattle.card.proofs.Files.{stopped-line, no-frame-line}
+use Rattle.card.proofs.RefusedLines.{refusal-1, refused-number-tells, refused-line-tells}
 use Rattle.card.proofs.Turns.{head-taken, head-not, track-taken, track-not, need-taken, end-taken, need-not, question-taken, late-line, frame-line}
 
 -- ---- the cases, in 01's words
@@ -317,3 +321,220 @@ module _ (r : Reading) (line : List ℕ) (h : reads (r .phase) ≡ true) where
       go : (said : Line) → lineOf line ≡ said → Comes r line
       go NoFrame e = no-frame e (no-frame-line r line h e)
       go (IsFrame f) e = in-time? f e (decLe (r .lines + 1) 65535)
+
+-- ---- what the lines so far have settled
+
+-- a reading that lines lead to from the start of a file
+pub data Reached : Reading → Type 0 where
+  at-start : Reached start
+  after-line : {r : Reading} → Reached r → (line : List ℕ) → Reached (readLine r line .reading)
+
+-- the head is in range, and one line stands for it and for each unit so far
+pub record TracksDue (r : Reading) : Type 0 where
+  pub n-in : (1 ≤ r .n) × (r .n ≤ 1024)
+  pub k-in : (1 ≤ r .k) × (r .k ≤ 32)
+  pub units-left : length (r .tracks) < r .n
+  pub needs-none : r .needs ≡ []
+  pub lines-are : r .lines ≡ length (r .tracks) + 1
+
+-- every unit has its track, and the needs so far are pairs, at most 8,192 of them
+pub record NeedsDue (r : Reading) : Type 0 where
+  pub n-in : (1 ≤ r .n) × (r .n ≤ 1024)
+  pub k-in : (1 ≤ r .k) × (r .k ≤ 32)
+  pub tracks-long : length (r .tracks) ≡ r .n
+  pub needs-even : length (r .needs) % 2 ≡ 0
+  pub needs-few : pairs (r .needs) ≤ 8192
+  pub lines-are : r .lines ≡ r .n + 1 + pairs (r .needs)
+
+-- the listing is accepted and its tracks are sound
+pub record QuestionsDue (r : Reading) : Type 0 where
+  pub accepted : listingVerdict (listingOf r) ≡ Fine
+  pub sound : soundVerdict (listingOf r) ≡ Fine
+  pub lines-few : r .lines ≤ 65535
+
+abbrev pub Stands : Phase → Reading → Type 0
+Stands Head r = r .lines ≡ 0
+Stands Tracks r = TracksDue r
+Stands Needs r = NeedsDue r
+Stands Asking r = QuestionsDue r
+Stands Stopped r = Unit {0}
+
+stands-in : {phase : Phase} (r : Reading) → r .phase ≡ phase → Stands (r .phase) r → Stands phase r
+stands-in r p s = subst (λ (x : Phase). Stands x r) p s
+
+module _ (r : Reading) (line : List ℕ) where
+  to-next : {x : Next} → readLine r line ≡ x → Stands (x .reading .phase) (x .reading)
+      → Stands (readLine r line .reading .phase) (readLine r line .reading)
+  to-next q s = rw q s
+
+  refused-stands : (s : Refusal) → StopsWith r line s → Stands (readLine r line .reading .phase) (readLine r line .reading)
+  unfolding refuse
+  refused-stands s q = to-next q tt
+
+  taken-stands : {f : Frame} {r′ : Reading} → Taken r f r′ → Stands (r .phase) r → Stands (r′ .phase) r′
+  taken-stands (head p k a b q) s =
+      let z : r .lines ≡ 0 = stands-in r p s in
+      rw q (record { n-in = a; k-in = b; units-left = omega arith; needs-none = refl; lines-are = omega arith })
+  taken-stands {f} (track p k u n q) s =
+      let d : TracksDue r = stands-in r p s in
+      let long = length-append (r .tracks) (f .b ∷ []) in
+      rw q (record {
+        n-in = d .n-in;
+        k-in = d .k-in;
+        units-left = omega (arith, d .units-left, n);
+        needs-none = d .needs-none;
+        lines-are = omega (arith, d .lines-are);
+      })
+  taken-stands {f} (last-track p k u n q) s =
+      let d : TracksDue r = stands-in r p s in
+      let long = length-append (r .tracks) (f .b ∷ []) in
+      let none : length (r .needs) ≡ 0 = rw (d .needs-none) in
+      rw q (record {
+        n-in = d .n-in;
+        k-in = d .k-in;
+        tracks-long = omega arith;
+        needs-even = omega arith;
+        needs-few = omega arith;
+        lines-are = omega (arith, d .lines-are);
+      })
+  taken-stands {f} (need p k n q) s =
+      let d : NeedsDue r = stands-in r p s in
+      let long = length-append (r .needs) (f .a ∷ f .b ∷ []) in
+      let even = d .needs-even in
+      let few = d .needs-few in
+      rw q (record {
+        n-in = d .n-in;
+        k-in = d .k-in;
+        tracks-long = d .tracks-long;
+        needs-even = omega arith;
+        needs-few = omega (arith, few-more (pairs (r .needs)) few n);
+        lines-are = omega (arith, d .lines-are);
+      })
+    where
+      few-more : (m : ℕ) → m ≤ 8192 → (m ≡ 8192 → ⊥) → m + 1 ≤ 8192
+      few-more m l n = omega arith
+
+  comes-stands : Comes r line → Stands (r .phase) r → Stands (readLine r line .reading .phase) (readLine r line .reading)
+  unfolding loaded
+  comes-stands (no-frame e q) s = refused-stands (refusal.NoFrame (r .lines + 1)) q
+  comes-stands (out-of-place f e o q) s = refused-stands (refusal.FrameOrder (r .lines + 1)) q
+  comes-stands (past-limits f e o q) s = refused-stands refusal.OutOfLimits q
+  comes-stands (taken f e r′ t q) s = to-next q (taken-stands t s)
+  comes-stands (ended f e o q) s = go (endVerdict r) refl
+    where
+      d : NeedsDue r
+      d = stands-in r (o .due) s
+
+      go : (v : Verdict) → endVerdict r ≡ v → Stands (readLine r line .reading .phase) (readLine r line .reading)
+      go Fine v =
+          let fine = then-fine (listingVerdict (listingOf r)) (soundVerdict (listingOf r)) v in
+          to-next {x = loaded (counted r) Fine} (q ∙ ap (loaded (counted r)) v) (record {
+            accepted = fine .0;
+            sound = fine .1;
+            lines-few = omega (arith, d .lines-are, d .n-in, d .needs-few);
+          })
+      go (Refused x) v = refused-stands x (q ∙ ap (loaded (counted r)) v)
+  comes-stands (asked f e o q) s =
+      let d : QuestionsDue r = stands-in r (o .due) s in
+      let d′ : QuestionsDue (counted r) = record { accepted = d .accepted; sound = d .sound; lines-few = o .in-time } in
+      to-next q (subst (λ (x : Phase). Stands x (counted r)) (sym (o .due)) d′)
+
+-- what each phase has settled
+pub reached-stands : {r : Reading} → Reached r → Stands (r .phase) r
+reached-stands at-start = refl
+reached-stands (after-line {r} q line) = go (true-or-false (reads (r .phase))) (reached-stands q)
+  where
+    go : (reads (r .phase) ≡ true) ⊎ (reads (r .phase) ≡ false) → Stands (r .phase) r
+        → Stands (readLine r line .reading .phase) (readLine r line .reading)
+    go (inl t) s = comes-stands r line (line-comes r line t) s
+    go (inr t) s = to-next r line (stopped-line r line t) s
+
+-- ---- what stops a reading
+
+-- a reading that goes on is not stopped
+not-stopped : {x : Next} (r : Reading) (s : Refusal) → reads (x .reading .phase) ≡ true → x ≡ refuse r s → ⊥
+unfolding refuse
+not-stopped r s t q = not-both t (ap (λ (x : Next). reads (x .reading .phase)) q)
+
+refuse-printed : (r : Reading) (a b : Refusal) → refuse r a ≡ refuse r b → refusedLine a ≡ refusedLine b
+unfolding refuse
+refuse-printed r a b q = ap (λ (x : Next). x .printed) q
+
+taken-reads : {r : Reading} {f : Frame} {r′ : Reading} → Taken r f r′ → unfinished (r′ .phase) ≡ true
+taken-reads (head p k a b q) = rw q
+taken-reads (track p k u n q) = rw q
+taken-reads (last-track p k u n q) = rw q
+taken-reads (need p k n q) = rw q
+
+unfinished-reads : (phase : Phase) → unfinished phase ≡ true → reads phase ≡ true
+unfinished-reads Head h = refl
+unfinished-reads Tracks h = refl
+unfinished-reads Needs h = refl
+unfinished-reads Asking h = refl
+unfinished-reads Stopped h = h
+
+-- at 04 neither 6 nor any of 8 to 12 comes
+end-never : (r : Reading) (s : Refusal) → (numberOf s ≡ 6) ⊎ (7 < numberOf s) → endVerdict r ≡ Refused s → ⊥
+end-never r s (inl n) = then-never (listing-others (listingOf r) (omega arith)) (sound-never (listingOf r) (λ e. omega arith))
+end-never r s (inr n) = then-never (listing-others (listingOf r) (omega arith)) (sound-never (listingOf r) (λ e. omega arith))
+
+module _ (r : Reading) (line : List ℕ) (s : Refusal) where
+  -- why a line stops a reading with this refusal, and the refusal of that case, which prints the same
+  data Cause : Type 0 where
+    cause-11 : lineOf line ≡ NoFrame → refusedLine (refusal.NoFrame (r .lines + 1)) ≡ refusedLine s → Cause
+    cause-12 : FrameWith line (OutOfPlace r) → refusedLine (refusal.FrameOrder (r .lines + 1)) ≡ refusedLine s → Cause
+    cause-1 : FrameWith line (PastLimits r) → refusedLine refusal.OutOfLimits ≡ refusedLine s → Cause
+    cause-end : FrameWith line (RightEnd r) → (x : Refusal) → endVerdict r ≡ Refused x → refusedLine x ≡ refusedLine s → Cause
+
+  cause : Comes r line → StopsWith r line s → Cause
+  unfolding loaded
+  cause (no-frame e q) h = cause-11 e (refuse-printed (counted r) (refusal.NoFrame (r .lines + 1)) s (sym q ∙ h))
+  cause (out-of-place f e o q) h = cause-12 (f, e, o) (refuse-printed (counted r) (refusal.FrameOrder (r .lines + 1)) s (sym q ∙ h))
+  cause (past-limits f e o q) h = cause-1 (f, e, o) (refuse-printed (counted r) refusal.OutOfLimits s (sym q ∙ h))
+  cause (taken f e r′ t q) h = absurd (not-stopped (counted r) s (unfinished-reads (r′ .phase) (taken-reads t)) (sym q ∙ h))
+  cause (ended f e o q) h = go (endVerdict r) refl
+    where
+      go : (v : Verdict) → endVerdict r ≡ v → Cause
+      go Fine v = absurd (not-stopped (counted r) s refl (sym (q ∙ ap (loaded (counted r)) v) ∙ h))
+      go (Refused x) v = cause-end (f, e, o) x v (refuse-printed (counted r) x s (sym (q ∙ ap (loaded (counted r)) v) ∙ h))
+  cause (asked f e o q) h = absurd (not-stopped (counted r) s (ap reads (o .due)) (sym q ∙ h))
+
+-- ---- 11, 12, and what never stops a reading
+
+module _ (r : Reading) (line : List ℕ) (h : reads (r .phase) ≡ true) where
+  -- a line is refused 11, at its own number, exactly when it is no frame
+  pub line-11 : StopsWith r line (refusal.NoFrame (r .lines + 1)) ↔ (lineOf line ≡ NoFrame)
+  line-11 = (λ q. to (cause r line (refusal.NoFrame (r .lines + 1)) (line-comes r line h) q), λ e. no-frame-line r line h e)
+    where
+      to : Cause r line (refusal.NoFrame (r .lines + 1)) → lineOf line ≡ NoFrame
+      to (cause-11 e p) = e
+      to (cause-12 o p) = absurd (let n = refused-number-tells (refusal.FrameOrder (r .lines + 1)) (refusal.NoFrame (r .lines + 1)) p in omega arith)
+      to (cause-1 o p) = absurd (let n = refused-number-tells refusal.OutOfLimits (refusal.NoFrame (r .lines + 1)) p in omega arith)
+      to (cause-end o x v p) = absurd (end-never r x (inr (omega (arith, refused-number-tells x (refusal.NoFrame (r .lines + 1)) p))) v)
+
+  -- and 12, at its own number, exactly when it is a frame in one of 01's cases
+  pub line-12 : StopsWith r line (refusal.FrameOrder (r .lines + 1)) ↔ FrameWith line (OutOfPlace r)
+  line-12 = (
+    (λ q. to (cause r line (refusal.FrameOrder (r .lines + 1)) (line-comes r line h) q)),
+    (λ o. out-of-place-line r line h (o .1) (o .2)),
+  )
+    where
+      to : Cause r line (refusal.FrameOrder (r .lines + 1)) → FrameWith line (OutOfPlace r)
+      to (cause-11 e p) = absurd (let n = refused-number-tells (refusal.NoFrame (r .lines + 1)) (refusal.FrameOrder (r .lines + 1)) p in omega arith)
+      to (cause-12 o p) = o
+      to (cause-1 o p) = absurd (let n = refused-number-tells refusal.OutOfLimits (refusal.FrameOrder (r .lines + 1)) p in omega arith)
+      to (cause-end o x v p) = absurd (end-never r x (inr (omega (arith, refused-number-tells x (refusal.FrameOrder (r .lines + 1)) p))) v)
+
+  -- 6, 8, 9 and 10 stop no reading
+  pub line-others : (s : Refusal) → (numberOf s ≡ 6) ⊎ ((8 ≤ numberOf s) × (numberOf s ≤ 10)) → StopsWith r line s → ⊥
+  line-others s n q = go n (cause r line s (line-comes r line h) q)
+    where
+      go : (numberOf s ≡ 6) ⊎ ((8 ≤ numberOf s) × (numberOf s ≤ 10)) → Cause r line s → ⊥
+      go (inl n) (cause-11 e p) = omega (arith, refused-number-tells (refusal.NoFrame (r .lines + 1)) s p)
+      go (inl n) (cause-12 o p) = omega (arith, refused-number-tells (refusal.FrameOrder (r .lines + 1)) s p)
+      go (inl n) (cause-1 o p) = omega (arith, refused-number-tells refusal.OutOfLimits s p)
+      go (inl n) (cause-end o x v p) = end-never r x (inl (refused-number-tells x s p ∙ n)) v
+      go (inr n) (cause-11 e p) = omega (arith, refused-number-tells (refusal.NoFrame (r .lines + 1)) s p)
+      go (inr n) (cause-12 o p) = omega (arith, refused-number-tells (refusal.FrameOrder (r .lines + 1)) s p)
+      go (inr n) (cause-1 o p) = omega (arith, refused-number-tells refusal.OutOfLimits s p)
+      go (inr n) (cause-end o x v p) = end-never r x (inr (omega (arith, refused-number-tells x s p))) v

@@ -96,6 +96,9 @@ refusal-is (ShortList count) = refl
 refusal-is (NoFrame line) = refl
 refusal-is (FrameOrder line) = refl
 
+pub refusal-1 : (s : Refusal) → numberOf s ≡ 1 → s ≡ OutOfLimits
+refusal-1 s n = sym (refusal-is s) ∙ rw n
+
 -- two refusals of one number and one place are the same
 refusal-same : (a b : Refusal) → numberOf a ≡ numberOf b → placeOf a ≡ placeOf b → a ≡ b
 refusal-same a b n p = sym (refusal-is a) ∙ rw (n, p) (refusal-is b)
