@@ -27,7 +27,7 @@ use Rattle.rules.proofs.Ranges.{true-or-false, not-both}
 use Rattle.rules.proofs.Verdicts.{and-both, both-and, and-no, no-and, within-is, is-within, then-fine}
 use Rattle.rules.proofs.Checks.{Off, Fails, passes, within-fails, and-fails, then-refused, then-never}
 use Rattle.rules.proofs.Accepted.{listing-fine}
-use Rattle.rules.proofs.Cases.{sound-never, sound-at}
+use Rattle.rules.proofs.Cases.{Outside, sound-never, sound-at}
 use Rattle.rules.proofs.Refusing.{listing-1, listing-2, listing-3, listing-4, listing-5, listing-others}
 use Rattle.frames.specs.declared.Frame.{Frame}
 use Rattle.frames.specs.declared.Line.{Line}
@@ -538,3 +538,188 @@ module _ (r : Reading) (line : List ℕ) (h : reads (r .phase) ≡ true) where
       go (inr n) (cause-12 o p) = omega (arith, refused-number-tells (refusal.FrameOrder (r .lines + 1)) s p)
       go (inr n) (cause-1 o p) = omega (arith, refused-number-tells refusal.OutOfLimits s p)
       go (inr n) (cause-end o x v p) = end-never r x (inr (omega (arith, refused-number-tells x s p))) v
+
+-- ---- refusals 1 to 7, of a reading that lines lead to
+
+-- before the end of 04 line 65,536 does not come
+stands-in-time : (phase : Phase) (r : Reading) → unfinished phase ≡ true → Stands phase r → r .lines + 1 ≤ 65535
+stands-in-time Head r h s = omega arith
+stands-in-time Tracks r h s = omega (arith, s .lines-are, s .units-left, s .n-in)
+stands-in-time Needs r h s = omega (arith, s .lines-are, s .needs-few, s .n-in)
+stands-in-time Asking r h s = absurd (not-both h refl)
+stands-in-time Stopped r h s = absurd (not-both h refl)
+
+-- a listing read up to 04 is within the limits
+needs-inside : (r : Reading) → NeedsDue r → Outside (listingOf r) → ⊥
+needs-inside r d (inl (inl l)) = omega (arith, d .n-in)
+needs-inside r d (inl (inr l)) = omega (arith, d .n-in)
+needs-inside r d (inr (inl (inl l))) = omega (arith, d .k-in)
+needs-inside r d (inr (inl (inr l))) = omega (arith, d .k-in)
+needs-inside r d (inr (inr (inl (inl l)))) = omega (arith, d .needs-even)
+needs-inside r d (inr (inr (inl (inr l)))) = omega (arith, d .needs-few)
+needs-inside r d (inr (inr (inr l))) = l (d .tracks-long)
+
+module _ (r : Reading) (d : NeedsDue r) where
+  -- 1 does not come at 04
+  end-not-1 : (s : Refusal) → numberOf s ≡ 1 → endVerdict r ≡ Refused s → ⊥
+  end-not-1 s n v = go (then-refused (listingVerdict (listingOf r)) (soundVerdict (listingOf r)) s .0 v)
+    where
+      go : (listingVerdict (listingOf r) ≡ Refused s) ⊎ ((listingVerdict (listingOf r) ≡ Fine) × (soundVerdict (listingOf r) ≡ Refused s)) → ⊥
+      go (inl q) = needs-inside r d (listing-1 (listingOf r) .0 (q ∙ ap Refused (refusal-1 s n)))
+      go (inr q) = sound-never (listingOf r) (λ e. omega arith) (q .1)
+
+  -- a refusal at 04 has a place of eight digits at most
+  end-place : (s : Refusal) → endVerdict r ≡ Refused s → placeOf s < 4294967296
+  end-place s v = go s (then-refused (listingVerdict (listingOf r)) (soundVerdict (listingOf r)) s .0 v) v
+    where
+      go : (s : Refusal) → (listingVerdict (listingOf r) ≡ Refused s) ⊎ ((listingVerdict (listingOf r) ≡ Fine) × (soundVerdict (listingOf r) ≡ Refused s))
+          → endVerdict r ≡ Refused s → placeOf s < 4294967296
+      go refusal.OutOfLimits q v = omega arith
+      go (refusal.NoSuchTrack u) (inl q) v = omega (arith, listing-2 (listingOf r) u .0 q .1 .holds, d .n-in)
+      go (refusal.NoSuchTrack u) (inr q) v = absurd (sound-never (listingOf r) (λ e. omega arith) (q .1))
+      go (refusal.EmptyTrack t) (inl q) v = omega (arith, listing-3 (listingOf r) t .0 q .2 .holds, d .k-in)
+      go (refusal.EmptyTrack t) (inr q) v = absurd (sound-never (listingOf r) (λ e. omega arith) (q .1))
+      go (refusal.BadPair i) (inl q) v = omega (arith, listing-4 (listingOf r) i .0 q .3 .holds, d .needs-few)
+      go (refusal.BadPair i) (inr q) v = absurd (sound-never (listingOf r) (λ e. omega arith) (q .1))
+      go (refusal.PairOrder i) (inl q) v = omega (arith, listing-5 (listingOf r) i .0 q .4 .holds, d .needs-few)
+      go (refusal.PairOrder i) (inr q) v = absurd (sound-never (listingOf r) (λ e. omega arith) (q .1))
+      go refusal.ShortArea q v = omega arith
+      go (refusal.UnsoundTrack u) (inl q) v = absurd (listing-others (listingOf r) (omega arith) q)
+      go (refusal.UnsoundTrack u) (inr q) v =
+          omega (arith, sound-at (listingOf r) (listing-fine (listingOf r) (q .0) .needs-pairs .goes-down) u .0 (q .1) .holds, d .n-in)
+      go (refusal.BadArgument w) q v = absurd (end-never r (refusal.BadArgument w) (inr (omega arith)) v)
+      go refusal.NotWhole q v = omega arith
+      go (refusal.ShortList count) q v = absurd (end-never r (refusal.ShortList count) (inr (omega arith)) v)
+      go (refusal.NoFrame line) q v = absurd (end-never r (refusal.NoFrame line) (inr (omega arith)) v)
+      go (refusal.FrameOrder line) q v = absurd (end-never r (refusal.FrameOrder line) (inr (omega arith)) v)
+
+-- the cases in which a line stops a reading
+abbrev pub Stopping : Reading → List ℕ → Type 0
+Stopping r line =
+    (lineOf line ≡ NoFrame) ⊎ FrameWith line (OutOfPlace r) ⊎ FrameWith line (PastLimits r)
+    ⊎ (FrameWith line (RightEnd r) × (endVerdict r ≡ Fine → ⊥))
+
+module _ (r : Reading) (line : List ℕ) (h : reads (r .phase) ≡ true) (reached : Reached r) where
+  -- before the end of 04 line 65,536 cannot come
+  pub line-in-time : unfinished (r .phase) ≡ true → r .lines + 1 ≤ 65535
+  line-in-time u = stands-in-time (r .phase) r u (reached-stands reached)
+
+  past-in-time : {f : Frame} → PastLimits r f → r .lines + 1 ≤ 65535
+  past-in-time (head-off p k o) = line-in-time (ap unfinished p)
+  past-in-time (need-8193 p k m) = line-in-time (ap unfinished p)
+
+  end-in-time : {f : Frame} → RightEnd r f → r .lines + 1 ≤ 65535
+  end-in-time o = line-in-time (ap unfinished (o .due))
+
+  end-due : {f : Frame} → RightEnd r f → NeedsDue r
+  end-due o = stands-in r (o .due) (reached-stands reached)
+
+  -- a line is refused 1 exactly when it is a head frame out of range or the 8,193rd need
+  pub line-1 : StopsWith r line refusal.OutOfLimits ↔ FrameWith line (PastLimits r)
+  line-1 = (
+    (λ q. to (cause r line refusal.OutOfLimits (line-comes r line h) q)),
+    (λ o. past-limits-line r line h (o .1) (past-in-time (o .2)) (o .2)),
+  )
+    where
+      to : Cause r line refusal.OutOfLimits → FrameWith line (PastLimits r)
+      to (cause-11 e p) = absurd (let n = refused-number-tells (refusal.NoFrame (r .lines + 1)) refusal.OutOfLimits p in omega arith)
+      to (cause-12 o p) = absurd (let n = refused-number-tells (refusal.FrameOrder (r .lines + 1)) refusal.OutOfLimits p in omega arith)
+      to (cause-1 o p) = o
+      to (cause-end o x v p) = absurd (end-not-1 r (end-due (o .2)) x (refused-number-tells x refusal.OutOfLimits p) v)
+
+  -- 2 to 7 come exactly at 04, once its own count and filler are found right, where the listing read meets them
+  pub line-2-to-7 : (s : Refusal) → 2 ≤ numberOf s → numberOf s ≤ 7 → placeOf s < 4294967296
+      → StopsWith r line s ↔ (FrameWith line (RightEnd r) × (endVerdict r ≡ Refused s))
+  unfolding loaded
+  line-2-to-7 s from to place = (
+    (λ q. only (cause r line s (line-comes r line h) q)),
+    (λ o. end-line r line h (o .0 .1) (end-in-time (o .0 .2)) (o .0 .2) ∙ ap (loaded (counted r)) (o .1)),
+  )
+    where
+      only : Cause r line s → FrameWith line (RightEnd r) × (endVerdict r ≡ Refused s)
+      only (cause-11 e p) = absurd (omega (arith, refused-number-tells (refusal.NoFrame (r .lines + 1)) s p))
+      only (cause-12 o p) = absurd (omega (arith, refused-number-tells (refusal.FrameOrder (r .lines + 1)) s p))
+      only (cause-1 o p) = absurd (omega (arith, refused-number-tells refusal.OutOfLimits s p))
+      only (cause-end o x v p) = (o, v ∙ ap Refused (refused-line-tells x s p (end-place r (end-due (o .2)) x v) place))
+
+  -- 11 and 12 have the line's own number for their place
+  pub line-place : (s : Refusal) → 10 < numberOf s → placeOf s < 4294967296 → StopsWith r line s → placeOf s ≡ r .lines + 1
+  line-place s n place q = only (cause r line s (line-comes r line h) q)
+    where
+      few : (phase : Phase) → reads phase ≡ true → Stands phase r → r .lines ≤ 65535
+      few Head t s = omega (arith, stands-in-time Head r refl s)
+      few Tracks t s = omega (arith, stands-in-time Tracks r refl s)
+      few Needs t s = omega (arith, stands-in-time Needs r refl s)
+      few Asking t s = s .lines-few
+      few Stopped t s = absurd (not-both t refl)
+
+      number : r .lines + 1 < 4294967296
+      number = omega (arith, few (r .phase) h (reached-stands reached))
+
+      only : Cause r line s → placeOf s ≡ r .lines + 1
+      only (cause-11 e p) = ap placeOf (sym (refused-line-tells (refusal.NoFrame (r .lines + 1)) s p number place))
+      only (cause-12 o p) = ap placeOf (sym (refused-line-tells (refusal.FrameOrder (r .lines + 1)) s p number place))
+      only (cause-1 o p) = absurd (omega (arith, refused-number-tells refusal.OutOfLimits s p))
+      only (cause-end o x v p) = absurd (end-never r x (inr (omega (arith, refused-number-tells x s p))) v)
+
+  stops : (s : Refusal) → StopsWith r line s → reads (readLine r line .reading .phase) ≡ false
+  unfolding refuse
+  stops s q = rw q
+
+  -- a line stops the reading exactly in these cases
+  pub line-stops : Fails (reads (readLine r line .reading .phase)) (Stopping r line)
+  unfolding loaded
+  line-stops = (λ q. to (line-comes r line h) q, from)
+    where
+      goes : {x : Next} → readLine r line ≡ x → reads (x .reading .phase) ≡ true → reads (readLine r line .reading .phase) ≡ false → ⊥
+      goes e t q = not-both t (ap (λ (y : Next). reads (y .reading .phase)) (sym e) ∙ q)
+
+      to : Comes r line → reads (readLine r line .reading .phase) ≡ false → Stopping r line
+      to (no-frame e q) z = inl e
+      to (out-of-place f e o q) z = inr (inl (f, e, o))
+      to (past-limits f e o q) z = inr (inr (inl (f, e, o)))
+      to (taken f e r′ t q) z = absurd (goes q (unfinished-reads (r′ .phase) (taken-reads t)) z)
+      to (ended f e o q) z = inr (inr (inr ((f, e, o), λ v. goes (q ∙ ap (loaded (counted r)) v) refl z)))
+      to (asked f e o q) z = absurd (goes q (ap reads (o .due)) z)
+
+      at-end : (v : Verdict) → endVerdict r ≡ v → (v ≡ Fine → ⊥) → readLine r line ≡ loaded (counted r) (endVerdict r)
+          → reads (readLine r line .reading .phase) ≡ false
+      at-end Fine v n q = absurd (n refl)
+      at-end (Refused x) v n q = stops x (q ∙ ap (loaded (counted r)) v)
+
+      from : Stopping r line → reads (readLine r line .reading .phase) ≡ false
+      from (inl e) = stops (refusal.NoFrame (r .lines + 1)) (line-11 r line h .1 e)
+      from (inr (inl o)) = stops (refusal.FrameOrder (r .lines + 1)) (line-12 r line h .1 o)
+      from (inr (inr (inl o))) = stops refusal.OutOfLimits (line-1 .1 o)
+      from (inr (inr (inr o))) =
+          at-end (endVerdict r) refl (o .1) (end-line r line h (o .0 .1) (end-in-time (o .0 .2)) (o .0 .2))
+
+  -- and in every other case it goes on
+  pub line-goes-on : (reads (readLine r line .reading .phase) ≡ true) ↔ (Stopping r line → ⊥)
+  line-goes-on = passes line-stops
+
+  -- before the end of 04 a line builds the index, and prints so, exactly when it is a right 04 of a listing without refusal
+  pub line-builds : unfinished (r .phase) ≡ true
+      → (readLine r line ≡ loaded (counted r) Fine) ↔ (FrameWith line (RightEnd r) × (endVerdict r ≡ Fine))
+  unfolding loaded refuse
+  line-builds u = (
+    (λ q. to (line-comes r line h) q),
+    (λ o. end-line r line h (o .0 .1) (end-in-time (o .0 .2)) (o .0 .2) ∙ ap (loaded (counted r)) (o .1)),
+  )
+    where
+      -- the reading is past 04
+      past04 : {x : Next} → x ≡ loaded (counted r) Fine → (reads (x .reading .phase) ≡ true) × (unfinished (x .reading .phase) ≡ false)
+      past04 q = (ap (λ (y : Next). reads (y .reading .phase)) q, ap (λ (y : Next). unfinished (y .reading .phase)) q)
+
+      at-end : FrameWith line (RightEnd r) → (v : Verdict) → endVerdict r ≡ v → loaded (counted r) v ≡ loaded (counted r) Fine
+          → FrameWith line (RightEnd r) × (endVerdict r ≡ Fine)
+      at-end o Fine v q = (o, v)
+      at-end o (Refused x) v q = absurd (not-both (past04 q .0) refl)
+
+      to : Comes r line → readLine r line ≡ loaded (counted r) Fine → FrameWith line (RightEnd r) × (endVerdict r ≡ Fine)
+      to (no-frame e q) z = absurd (not-both (past04 (sym q ∙ z) .0) refl)
+      to (out-of-place f e o q) z = absurd (not-both (past04 (sym q ∙ z) .0) refl)
+      to (past-limits f e o q) z = absurd (not-both (past04 (sym q ∙ z) .0) refl)
+      to (taken f e r′ t q) z = absurd (not-both (taken-reads t) (past04 (sym q ∙ z) .1))
+      to (ended f e o q) z = at-end (f, e, o) (endVerdict r) refl (sym q ∙ z)
+      to (asked f e o q) z = absurd (not-both u (ap unfinished (o .due)))
