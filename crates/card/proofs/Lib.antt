@@ -4,3 +4,4 @@ pub mod Turns
 pub mod Runs
 pub mod RefusedLines
 pub mod LineRefusals
+pub mod FileRefusals

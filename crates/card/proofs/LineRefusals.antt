@@ -460,13 +460,13 @@ refuse-printed : (r : Reading) (a b : Refusal) → refuse r a ≡ refuse r b →
 unfolding refuse
 refuse-printed r a b q = ap (λ (x : Next). x .printed) q
 
-taken-reads : {r : Reading} {f : Frame} {r′ : Reading} → Taken r f r′ → unfinished (r′ .phase) ≡ true
-taken-reads (head p k a b q) = rw q
-taken-reads (track p k u n q) = rw q
-taken-reads (last-track p k u n q) = rw q
-taken-reads (need p k n q) = rw q
+pub taken-unfinished : {r : Reading} {f : Frame} {r′ : Reading} → Taken r f r′ → unfinished (r′ .phase) ≡ true
+taken-unfinished (head p k a b q) = rw q
+taken-unfinished (track p k u n q) = rw q
+taken-unfinished (last-track p k u n q) = rw q
+taken-unfinished (need p k n q) = rw q
 
-unfinished-reads : (phase : Phase) → unfinished phase ≡ true → reads phase ≡ true
+pub unfinished-reads : (phase : Phase) → unfinished phase ≡ true → reads phase ≡ true
 unfinished-reads Head h = refl
 unfinished-reads Tracks h = refl
 unfinished-reads Needs h = refl
@@ -491,7 +491,7 @@ module _ (r : Reading) (line : List ℕ) (s : Refusal) where
   cause (no-frame e q) h = cause-11 e (refuse-printed (counted r) (refusal.NoFrame (r .lines + 1)) s (sym q ∙ h))
   cause (out-of-place f e o q) h = cause-12 (f, e, o) (refuse-printed (counted r) (refusal.FrameOrder (r .lines + 1)) s (sym q ∙ h))
   cause (past-limits f e o q) h = cause-1 (f, e, o) (refuse-printed (counted r) refusal.OutOfLimits s (sym q ∙ h))
-  cause (taken f e r′ t q) h = absurd (not-stopped (counted r) s (unfinished-reads (r′ .phase) (taken-reads t)) (sym q ∙ h))
+  cause (taken f e r′ t q) h = absurd (not-stopped (counted r) s (unfinished-reads (r′ .phase) (taken-unfinished t)) (sym q ∙ h))
   cause (ended f e o q) h = go (endVerdict r) refl
     where
       go : (v : Verdict) → endVerdict r ≡ v → Cause
@@ -678,7 +678,7 @@ module _ (r : Reading) (line : List ℕ) (h : reads (r .phase) ≡ true) (reache
       to (no-frame e q) z = inl e
       to (out-of-place f e o q) z = inr (inl (f, e, o))
       to (past-limits f e o q) z = inr (inr (inl (f, e, o)))
-      to (taken f e r′ t q) z = absurd (goes q (unfinished-reads (r′ .phase) (taken-reads t)) z)
+      to (taken f e r′ t q) z = absurd (goes q (unfinished-reads (r′ .phase) (taken-unfinished t)) z)
       to (ended f e o q) z = inr (inr (inr ((f, e, o), λ v. goes (q ∙ ap (loaded (counted r)) v) refl z)))
       to (asked f e o q) z = absurd (goes q (ap reads (o .due)) z)
 
@@ -720,6 +720,61 @@ module _ (r : Reading) (line : List ℕ) (h : reads (r .phase) ≡ true) (reache
       to (no-frame e q) z = absurd (not-both (past04 (sym q ∙ z) .0) refl)
       to (out-of-place f e o q) z = absurd (not-both (past04 (sym q ∙ z) .0) refl)
       to (past-limits f e o q) z = absurd (not-both (past04 (sym q ∙ z) .0) refl)
-      to (taken f e r′ t q) z = absurd (not-both (taken-reads t) (past04 (sym q ∙ z) .1))
+      to (taken f e r′ t q) z = absurd (not-both (taken-unfinished t) (past04 (sym q ∙ z) .1))
       to (ended f e o q) z = at-end (f, e, o) (endVerdict r) refl (sym q ∙ z)
       to (asked f e o q) z = absurd (not-both u (ap unfinished (o .due)))
+
+-- ---- before 04, and after it
+
+-- a line after which 04 is still to come prints nothing, and 04 was to come before it
+pub line-silent : (r : Reading) (line : List ℕ) → unfinished (readLine r line .reading .phase) ≡ true
+    → (unfinished (r .phase) ≡ true) × (readLine r line .printed ≡ [])
+unfolding loaded refuse
+line-silent r line u = go (true-or-false (reads (r .phase)))
+  where
+    says : {x : Next} → readLine r line ≡ x → unfinished (x .reading .phase) ≡ true
+    says e = ap (λ (y : Next). unfinished (y .reading .phase)) (sym e) ∙ u
+
+    from : {f : Frame} {r′ : Reading} → Taken r f r′ → unfinished (r .phase) ≡ true
+    from (head p k a b q) = ap unfinished p
+    from (track p k a n q) = ap unfinished p
+    from (last-track p k a n q) = ap unfinished p
+    from (need p k n q) = ap unfinished p
+
+    at-end : (v : Verdict) → readLine r line ≡ loaded (counted r) v → ⊥
+    at-end Fine q = not-both (says q) refl
+    at-end (Refused x) q = not-both (says q) refl
+
+    by : Comes r line → (unfinished (r .phase) ≡ true) × (readLine r line .printed ≡ [])
+    by (no-frame e q) = absurd (not-both (says q) refl)
+    by (out-of-place f e o q) = absurd (not-both (says q) refl)
+    by (past-limits f e o q) = absurd (not-both (says q) refl)
+    by (taken f e r′ t q) = (from t, ap (λ (y : Next). y .printed) q)
+    by (ended f e o q) = absurd (at-end (endVerdict r) q)
+    by (asked f e o q) = absurd (not-both (says q) (ap unfinished (o .due)))
+
+    go : (reads (r .phase) ≡ true) ⊎ (reads (r .phase) ≡ false) → (unfinished (r .phase) ≡ true) × (readLine r line .printed ≡ [])
+    go (inl t) = by (line-comes r line t)
+    go (inr t) = absurd (not-both (unfinished-reads (r .phase) (says (stopped-line r line t))) t)
+
+-- after 04 only 11 and 12 stop a reading
+pub asking-stops : (r : Reading) (line : List ℕ) → r .phase ≡ Asking → (s : Refusal) → StopsWith r line s → 10 < numberOf s
+asking-stops r line a s q = go (cause r line s (line-comes r line (ap reads a)) q)
+  where
+    past04 : {phase : Phase} → r .phase ≡ phase → unfinished phase ≡ true → ⊥
+    past04 p u = not-both u (ap unfinished (sym p ∙ a))
+
+    no-limits : {f : Frame} → PastLimits r f → ⊥
+    no-limits (head-off p k o) = past04 p refl
+    no-limits (need-8193 p k m) = past04 p refl
+
+    go : Cause r line s → 10 < numberOf s
+    go (cause-11 e p) = omega (arith, refused-number-tells (refusal.NoFrame (r .lines + 1)) s p)
+    go (cause-12 o p) = omega (arith, refused-number-tells (refusal.FrameOrder (r .lines + 1)) s p)
+    go (cause-1 o p) = absurd (no-limits (o .2))
+    go (cause-end o x v p) = absurd (past04 (o .2 .due) refl)
+
+-- a question, answered or refused 8, prints one line and leaves the reading as it was, but for the count of lines
+pub question-goes-on : (r : Reading) (line : List ℕ) (q : FrameWith line (Question r))
+    → readLine r line ≡ answered (counted r) (answerTo (readIndex r) (q .0 .kind) (q .0 .a) (q .0 .b))
+question-goes-on r line q = question-line r line (ap reads (q .2 .due)) (q .1) (q .2)
