@@ -3,5 +3,6 @@ pub mod Files
 pub mod Turns
 pub mod Runs
 pub mod RefusedLines
+pub mod FrameLines
 pub mod LineRefusals
 pub mod FileRefusals
