@@ -5,4 +5,5 @@ pub mod Runs
 pub mod RefusedLines
 pub mod FrameLines
 pub mod LineRefusals
+pub mod QuestionRefusals
 pub mod FileRefusals

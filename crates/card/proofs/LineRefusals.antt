@@ -129,7 +129,7 @@ StopsWith r line refusal = readLine r line ≡ refuse (counted r) refusal
 -- ---- each case leads to its outcome
 
 -- what holds of each kind of question holds of every one
-each-kind : (P : ℕ → Type 0) → P 0x10 → P 0x11 → P 0x12 → P 0x13 → P 0x14 → P 0x15 → P 0x16 → P 0x17 → P 0x18
+pub each-kind : (P : ℕ → Type 0) → P 0x10 → P 0x11 → P 0x12 → P 0x13 → P 0x14 → P 0x15 → P 0x16 → P 0x17 → P 0x18
     → (kind : ℕ) → 0x10 ≤ kind → kind ≤ 0x18 → P kind
 each-kind P p0 p1 p2 p3 p4 p5 p6 p7 p8 kind from to = subst P e (go (kind - 0x10) (omega arith))
   where
@@ -359,7 +359,7 @@ Stands Needs r = NeedsDue r
 Stands Asking r = QuestionsDue r
 Stands Stopped r = Unit {0}
 
-stands-in : {phase : Phase} (r : Reading) → r .phase ≡ phase → Stands (r .phase) r → Stands phase r
+pub stands-in : {phase : Phase} (r : Reading) → r .phase ≡ phase → Stands (r .phase) r → Stands phase r
 stands-in r p s = subst (λ (x : Phase). Stands x r) p s
 
 module _ (r : Reading) (line : List ℕ) where
@@ -452,7 +452,7 @@ reached-stands (after-line {r} q line) = go (true-or-false (reads (r .phase))) (
 -- ---- what stops a reading
 
 -- a reading that goes on is not stopped
-not-stopped : {x : Next} (r : Reading) (s : Refusal) → reads (x .reading .phase) ≡ true → x ≡ refuse r s → ⊥
+pub not-stopped : {x : Next} (r : Reading) (s : Refusal) → reads (x .reading .phase) ≡ true → x ≡ refuse r s → ⊥
 unfolding refuse
 not-stopped r s t q = not-both t (ap (λ (x : Next). reads (x .reading .phase)) q)
 

@@ -99,6 +99,12 @@ refusal-is (FrameOrder line) = refl
 pub refusal-1 : (s : Refusal) → numberOf s ≡ 1 → s ≡ OutOfLimits
 refusal-1 s n = sym (refusal-is s) ∙ rw n
 
+pub refusal-8 : (s : Refusal) → numberOf s ≡ 8 → s ≡ BadArgument (placeOf s)
+refusal-8 s n = sym (refusal-is s) ∙ rw n
+
+pub refusal-9 : (s : Refusal) → numberOf s ≡ 9 → s ≡ NotWhole
+refusal-9 s n = sym (refusal-is s) ∙ rw n
+
 -- two refusals of one number and one place are the same
 refusal-same : (a b : Refusal) → numberOf a ≡ numberOf b → placeOf a ≡ placeOf b → a ≡ b
 refusal-same a b n p = sym (refusal-is a) ∙ rw (n, p) (refusal-is b)
