@@ -1,11 +1,11 @@
 -- What is printed for a whole course file: nothing before the first refusal or the end of 04, and nothing after a refusal that stops the
 -- reading. Each theorem speaks of a file read so far, line by line.
 -- Assumes nothing.
-use Prim.Native.Nat.{ℕ, zero, suc, _+_, _≤_}
+use Prim.Native.Nat.{ℕ, zero, suc, _+_, _≤_, _<_}
 use mathlib.Core.Path.{_≡_, refl, sym, ap, _∙_, subst}
 use mathlib.Core.Bool.{true, false}
 use mathlib.Core.List.{List, [], _∷_, _++_, append-assoc, append-nil}
-use mathlib.Core.Logic.{_⊎_, inl, inr}
+use mathlib.Core.Logic.{_↔_, _⊎_, inl, inr}
 use native.Mathlib.Omega.{arith}
 use lib.ListN.{length, getD, drop}
 use lib.Seq.{getD-take}
@@ -13,6 +13,7 @@ use Rattle.rules.specs.declared.Refusal.{Refusal}
 use Rattle.rules.specs.declared.Refusal.the-variants as refusal
 use Rattle.rules.specs.declared.Verdict.{Verdict}
 use Rattle.rules.specs.declared.Verdict.the-variants.{Fine, Refused}
+use Rattle.rules.specs.Refusals.{placeOf}
 use Rattle.rules.specs.Index.{builtBits}
 use Rattle.rules.proofs.Ranges.{not-both}
 use Rattle.frames.specs.declared.Line.{Line}
@@ -25,7 +26,8 @@ use Rattle.reading.specs.Card.{Reading, Next, listingOf, readIndex, inPhase, re
 use Rattle.card.specs.Files.{firstLine, printedFrom, coursePrints}
 use Rattle.card.proofs.Files.{line-frame, rest-shorter, prints, line-prints, stopped-prints}
 use Rattle.card.proofs.LineRefusals.{FrameWith, OutOfPlace, Question, answerTo, endVerdict, StopsWith, Comes, no-frame, out-of-place, past-limits, taken, ended, asked, Reached, at-start, after-line}
-use Rattle.card.proofs.LineRefusals.{line-comes, taken-unfinished, unfinished-reads, line-11, line-silent, question-goes-on}
+use Rattle.card.proofs.LineRefusals.{line-comes, stands-in, reached-stands, taken-unfinished, unfinished-reads, end-place, line-11, line-in-time, line-silent, question-goes-on}
+use Rattle.card.proofs.RefusedLines.{refused-line-tells}
 
 -- ---- a file read so far
 
@@ -114,54 +116,82 @@ empty-file = ends-early [] nothing refl
 
 -- ---- a refusal alone, or a built index
 
+-- the first refusal before the end of 04
+pub data FirstRefusal (file : List ℕ) (s : Refusal) : Type 0 where
+  -- a line is refused
+  at-line : {r : Reading} (b : ℕ) (bs : List ℕ) → ReadSoFar file r [] (b ∷ bs) → unfinished (r .phase) ≡ true → StopsWith r (firstLine (b ∷ bs)) s
+      → FirstRefusal file s
+  -- or the file ends before 04
+  at-end : {r : Reading} → ReadSoFar file r [] [] → unfinished (r .phase) ≡ true → s ≡ refusal.FrameOrder (r .lines + 1) → FirstRefusal file s
+
 or-on : {A B C : Type 0} → A ⊎ B ⊎ C → (C → A ⊎ B) → A ⊎ B
 or-on (inl a) on = inl a
 or-on (inr (inl b)) on = inr b
 or-on (inr (inr c)) on = on c
 
 module _ (file : List ℕ) where
-  -- one line is printed, a refusal
-  abbrev pub OnlyRefused : Type 0
-  OnlyRefused = (s : Refusal) × (coursePrints file ≡ refusedLine s)
+  -- a refusal comes before the end of 04, with a place of eight digits at most
+  abbrev pub RefusedFirst : Type 0
+  RefusedFirst = (s : Refusal) × (placeOf s < 4294967296) × FirstRefusal file s
 
   -- after some lines the index is built, and `built` is all that is printed so far
   abbrev pub BuiltSoFar : Type 0
   BuiltSoFar = (r : Reading) × (rest : List ℕ) × (r .phase ≡ Asking) × ReadSoFar file r (builtLine (builtBits (listingOf r))) rest
 
+  ended-first : {r : Reading} → ReadSoFar file r [] [] → unfinished (r .phase) ≡ true → RefusedFirst
+  ended-first {r} q u = (refusal.FrameOrder (r .lines + 1), omega (arith, line-in-time r (so-far-reached file q) u), at-end q u refl)
+
   module _ (r : Reading) (b : ℕ) (bs : List ℕ) (q : ReadSoFar file r [] (b ∷ bs)) (u : unfinished (r .phase) ≡ true) where
+    abbrev line : List ℕ
+    line = firstLine (b ∷ bs)
+
     abbrev rest : List ℕ
-    rest = drop (length (firstLine (b ∷ bs))) (b ∷ bs)
+    rest = drop (length line) (b ∷ bs)
 
     abbrev OneMore : Type 0
     OneMore = (r′ : Reading) × (unfinished (r′ .phase) ≡ true) × ReadSoFar file r′ [] rest
 
-    so-far-next : {x : Next} → readLine r (firstLine (b ∷ bs)) ≡ x → ReadSoFar file (x .reading) (x .printed) rest
+    so-far-next : {x : Next} → readLine r line ≡ x → ReadSoFar file (x .reading) (x .printed) rest
     so-far-next e = subst (λ (x : Next). ReadSoFar file (x .reading) (x .printed) rest) e (one-more b bs q)
 
-    refused : (s : Refusal) → StopsWith r (firstLine (b ∷ bs)) s → OnlyRefused ⊎ BuiltSoFar ⊎ OneMore
-    refused s z = inl (s, before-04-one-line file b bs q u s z)
+    refused : (s : Refusal) → placeOf s < 4294967296 → StopsWith r line s → RefusedFirst ⊎ BuiltSoFar ⊎ OneMore
+    refused s small z = inl (s, small, at-line b bs q u z)
 
-    step : Comes r (firstLine (b ∷ bs)) → OnlyRefused ⊎ BuiltSoFar ⊎ OneMore
+    step : Comes r line → RefusedFirst ⊎ BuiltSoFar ⊎ OneMore
     unfolding loaded
-    step (no-frame e z) = refused (refusal.NoFrame (r .lines + 1)) z
-    step (out-of-place f e o z) = refused (refusal.FrameOrder (r .lines + 1)) z
-    step (past-limits f e o z) = refused refusal.OutOfLimits z
+    step (no-frame e z) = refused (refusal.NoFrame (r .lines + 1)) (omega (arith, line-in-time r (so-far-reached file q) u)) z
+    step (out-of-place f e o z) = refused (refusal.FrameOrder (r .lines + 1)) (omega (arith, line-in-time r (so-far-reached file q) u)) z
+    step (past-limits f e o z) = refused refusal.OutOfLimits (omega arith) z
     step (taken f e r′ t z) = inr (inr (r′, taken-unfinished t, so-far-next z))
     step (ended f e o z) = go (endVerdict r) refl
       where
-        go : (v : Verdict) → endVerdict r ≡ v → OnlyRefused ⊎ BuiltSoFar ⊎ OneMore
+        go : (v : Verdict) → endVerdict r ≡ v → RefusedFirst ⊎ BuiltSoFar ⊎ OneMore
         go Fine v = inr (inl (inPhase Asking (counted r), rest, refl, so-far-next (z ∙ ap (loaded (counted r)) v)))
-        go (Refused x) v = refused x (z ∙ ap (loaded (counted r)) v)
+        go (Refused x) v =
+            refused x (end-place r (stands-in r (o .due) (reached-stands (so-far-reached file q))) x v) (z ∙ ap (loaded (counted r)) v)
     step (asked f e o z) = absurd (not-both u (ap unfinished (o .due)))
 
-  -- every file prints one refusal and nothing else, or its index is built and `built` is the first line printed
-  pub refusal-or-built : OnlyRefused ⊎ BuiltSoFar
-  refusal-or-built = go (length file) start file (omega arith) nothing refl
+  -- of every file a refusal comes before the end of 04, or its index is built and `built` is the first line printed
+  pub refused-or-built : RefusedFirst ⊎ BuiltSoFar
+  refused-or-built = go (length file) start file (omega arith) nothing refl
     where
-      go : (turns : ℕ) (r : Reading) (bytes : List ℕ) → length bytes ≤ turns → ReadSoFar file r [] bytes → unfinished (r .phase) ≡ true → OnlyRefused ⊎ BuiltSoFar
-      go zero r [] l q u = inl (refusal.FrameOrder (r .lines + 1), ends-early file q u)
+      go : (turns : ℕ) (r : Reading) (bytes : List ℕ) → length bytes ≤ turns → ReadSoFar file r [] bytes → unfinished (r .phase) ≡ true → RefusedFirst ⊎ BuiltSoFar
+      go zero r [] l q u = inl (ended-first q u)
       go zero r (b ∷ bs) l q u = absurd (omega arith)
-      go (suc turns) r [] l q u = inl (refusal.FrameOrder (r .lines + 1), ends-early file q u)
+      go (suc turns) r [] l q u = inl (ended-first q u)
       go (suc turns) r (b ∷ bs) l q u =
           or-on (step r b bs q u (line-comes r (firstLine (b ∷ bs)) (unfinished-reads (r .phase) u)))
           (λ s. go turns (s .0) (drop (length (firstLine (b ∷ bs))) (b ∷ bs)) (omega (arith, rest-shorter b bs)) (s .2) (s .1))
+
+  -- a file prints one refusal and nothing else exactly when it is the first before the end of 04
+  pub file-refused : (s : Refusal) → placeOf s < 4294967296 → (coursePrints file ≡ refusedLine s) ↔ FirstRefusal file s
+  unfolding builtLine refusedLine
+  file-refused s small = (λ h. to refused-or-built h, λ f. from f)
+    where
+      from : {s : Refusal} → FirstRefusal file s → coursePrints file ≡ refusedLine s
+      from {s} (at-line b bs q u z) = before-04-one-line file b bs q u s z
+      from (at-end q u e) = ends-early file q u ∙ ap refusedLine (sym e)
+
+      to : RefusedFirst ⊎ BuiltSoFar → coursePrints file ≡ refusedLine s → FirstRefusal file s
+      to (inl t) h = subst (FirstRefusal file) (refused-line-tells (t .0) s (sym (from (t .2)) ∙ h) (t .1) small) (t .2)
+      to (inr t) h = absurd (let z : _≡_ {A = ℕ} 98 114 = ap (λ (l : List ℕ). getD l 0 0) (sym (so-far-prints file (t .3)) ∙ h) in omega arith)

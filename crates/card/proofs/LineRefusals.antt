@@ -541,7 +541,6 @@ module _ (r : Reading) (line : List ℕ) (h : reads (r .phase) ≡ true) where
 
 -- ---- refusals 1 to 7, of a reading that lines lead to
 
--- before the end of 04 line 65,536 does not come
 stands-in-time : (phase : Phase) (r : Reading) → unfinished phase ≡ true → Stands phase r → r .lines + 1 ≤ 65535
 stands-in-time Head r h s = omega arith
 stands-in-time Tracks r h s = omega (arith, s .lines-are, s .units-left, s .n-in)
@@ -569,7 +568,7 @@ module _ (r : Reading) (d : NeedsDue r) where
       go (inr q) = sound-never (listingOf r) (λ e. omega arith) (q .1)
 
   -- a refusal at 04 has a place of eight digits at most
-  end-place : (s : Refusal) → endVerdict r ≡ Refused s → placeOf s < 4294967296
+  pub end-place : (s : Refusal) → endVerdict r ≡ Refused s → placeOf s < 4294967296
   end-place s v = go s (then-refused (listingVerdict (listingOf r)) (soundVerdict (listingOf r)) s .0 v) v
     where
       go : (s : Refusal) → (listingVerdict (listingOf r) ≡ Refused s) ⊎ ((listingVerdict (listingOf r) ≡ Fine) × (soundVerdict (listingOf r) ≡ Refused s))
@@ -599,17 +598,17 @@ Stopping r line =
     (lineOf line ≡ NoFrame) ⊎ FrameWith line (OutOfPlace r) ⊎ FrameWith line (PastLimits r)
     ⊎ (FrameWith line (RightEnd r) × (endVerdict r ≡ Fine → ⊥))
 
-module _ (r : Reading) (line : List ℕ) (h : reads (r .phase) ≡ true) (reached : Reached r) where
-  -- before the end of 04 line 65,536 cannot come
-  pub line-in-time : unfinished (r .phase) ≡ true → r .lines + 1 ≤ 65535
-  line-in-time u = stands-in-time (r .phase) r u (reached-stands reached)
+-- before the end of 04 line 65,536 cannot come
+pub line-in-time : (r : Reading) → Reached r → unfinished (r .phase) ≡ true → r .lines + 1 ≤ 65535
+line-in-time r reached u = stands-in-time (r .phase) r u (reached-stands reached)
 
+module _ (r : Reading) (line : List ℕ) (h : reads (r .phase) ≡ true) (reached : Reached r) where
   past-in-time : {f : Frame} → PastLimits r f → r .lines + 1 ≤ 65535
-  past-in-time (head-off p k o) = line-in-time (ap unfinished p)
-  past-in-time (need-8193 p k m) = line-in-time (ap unfinished p)
+  past-in-time (head-off p k o) = line-in-time r reached (ap unfinished p)
+  past-in-time (need-8193 p k m) = line-in-time r reached (ap unfinished p)
 
   end-in-time : {f : Frame} → RightEnd r f → r .lines + 1 ≤ 65535
-  end-in-time o = line-in-time (ap unfinished (o .due))
+  end-in-time o = line-in-time r reached (ap unfinished (o .due))
 
   end-due : {f : Frame} → RightEnd r f → NeedsDue r
   end-due o = stands-in r (o .due) (reached-stands reached)
