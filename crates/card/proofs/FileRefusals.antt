@@ -13,7 +13,7 @@ use Rattle.rules.specs.declared.Refusal.{Refusal}
 use Rattle.rules.specs.declared.Refusal.the-variants as refusal
 use Rattle.rules.specs.declared.Verdict.{Verdict}
 use Rattle.rules.specs.declared.Verdict.the-variants.{Fine, Refused}
-use Rattle.rules.specs.Refusals.{placeOf}
+use Rattle.rules.specs.Refusals.{numberOf, placeOf}
 use Rattle.rules.specs.Index.{builtBits}
 use Rattle.rules.proofs.Ranges.{not-both}
 use Rattle.frames.specs.declared.Line.{Line}
@@ -26,7 +26,7 @@ use Rattle.reading.specs.Card.{Reading, Next, listingOf, readIndex, inPhase, re
 use Rattle.card.specs.Files.{firstLine, printedFrom, coursePrints}
 use Rattle.card.proofs.Files.{line-frame, rest-shorter, prints, line-prints, stopped-prints}
 use Rattle.card.proofs.LineRefusals.{FrameWith, OutOfPlace, Question, answerTo, endVerdict, StopsWith, Comes, no-frame, out-of-place, past-limits, taken, ended, asked, Reached, at-start, after-line}
-use Rattle.card.proofs.LineRefusals.{line-comes, stands-in, reached-stands, taken-unfinished, unfinished-reads, end-place, line-11, line-in-time, line-silent, question-goes-on}
+use Rattle.card.proofs.LineRefusals.{line-comes, stands-in, reached-stands, taken-unfinished, unfinished-reads, end-place, line-11, line-in-time, line-silent, asking-stops, question-goes-on}
 use Rattle.card.proofs.RefusedLines.{refused-line-tells}
 
 -- ---- a file read so far
@@ -195,3 +195,49 @@ module _ (file : List ℕ) where
       to : RefusedFirst ⊎ BuiltSoFar → coursePrints file ≡ refusedLine s → FirstRefusal file s
       to (inl t) h = subst (FirstRefusal file) (refused-line-tells (t .0) s (sym (from (t .2)) ∙ h) (t .1) small) (t .2)
       to (inr t) h = absurd (let z : _≡_ {A = ℕ} 98 114 = ap (λ (l : List ℕ). getD l 0 0) (sym (so-far-prints file (t .3)) ∙ h) in omega arith)
+
+-- ---- after 04
+
+-- the lines after 04 are questions, each answered or refused 8, up to the end of the file or up to the first line that is refused 11 or 12
+pub data QuestionsEnd (file : List ℕ) : Type 0 where
+  -- the file ends, and nothing more is printed
+  at-last : {r : Reading} {printed : List ℕ} → ReadSoFar file r printed [] → r .phase ≡ Asking → coursePrints file ≡ printed → QuestionsEnd file
+  -- a line is refused 11 or 12, which is the last that is printed
+  at-refusal : {r : Reading} {printed : List ℕ} (b : ℕ) (bs : List ℕ) → ReadSoFar file r printed (b ∷ bs) → r .phase ≡ Asking
+      → (s : Refusal) → 10 < numberOf s → StopsWith r (firstLine (b ∷ bs)) s → coursePrints file ≡ printed ++ refusedLine s → QuestionsEnd file
+
+module _ (file : List ℕ) where
+  module _ {r : Reading} {printed : List ℕ} (b : ℕ) (bs : List ℕ) (q : ReadSoFar file r printed (b ∷ bs)) (a : r .phase ≡ Asking) where
+    abbrev OneQuestion : Type 0
+    OneQuestion = (printed′ : List ℕ) × ReadSoFar file (counted r) printed′ (drop (length (firstLine (b ∷ bs))) (b ∷ bs))
+
+    stopped : (s : Refusal) → StopsWith r (firstLine (b ∷ bs)) s → QuestionsEnd file ⊎ OneQuestion
+    stopped s z = inl (at-refusal b bs q a s (asking-stops r (firstLine (b ∷ bs)) a s z) z (refusal-last file b bs q s z))
+
+    question-step : Comes r (firstLine (b ∷ bs)) → QuestionsEnd file ⊎ OneQuestion
+    question-step (no-frame e z) = stopped (refusal.NoFrame (r .lines + 1)) z
+    question-step (out-of-place f e o z) = stopped (refusal.FrameOrder (r .lines + 1)) z
+    question-step (past-limits f e o z) = stopped refusal.OutOfLimits z
+    question-step (taken f e r′ t z) =
+        absurd
+        (not-both
+        (line-silent r (firstLine (b ∷ bs)) (ap (λ (x : Next). unfinished (x .reading .phase)) z ∙ taken-unfinished t) .0)
+        (ap unfinished a))
+    question-step (ended f e o z) = absurd (not-both (ap unfinished (o .due)) (ap unfinished a))
+    question-step (asked f e o z) = inr (printed ++ answerTo (readIndex r) (f .kind) (f .a) (f .b), question-read-on file b bs q (f, e, o))
+
+  end-or-on : {A B : Type 0} → A ⊎ B → (B → A) → A
+  end-or-on (inl a) on = a
+  end-or-on (inr b) on = on b
+
+  -- once the index is built, every line is a question that is answered or refused 8, up to the end or to the refusal that stops
+  pub questions-end : {r : Reading} {printed rest : List ℕ} → ReadSoFar file r printed rest → r .phase ≡ Asking → QuestionsEnd file
+  questions-end {r} {printed} {rest} q a = go (length rest) r printed rest (omega arith) q a
+    where
+      go : (turns : ℕ) (r : Reading) (printed bytes : List ℕ) → length bytes ≤ turns → ReadSoFar file r printed bytes → r .phase ≡ Asking → QuestionsEnd file
+      go zero r printed [] l q a = at-last q a (ends-asking file q a)
+      go zero r printed (b ∷ bs) l q a = absurd (omega arith)
+      go (suc turns) r printed [] l q a = at-last q a (ends-asking file q a)
+      go (suc turns) r printed (b ∷ bs) l q a =
+          end-or-on (question-step b bs q a (line-comes r (firstLine (b ∷ bs)) (ap reads a)))
+          (λ s. go turns (counted r) (s .0) (drop (length (firstLine (b ∷ bs))) (b ∷ bs)) (omega (arith, rest-shorter b bs)) (s .1) a)
