@@ -25,8 +25,9 @@ use Rattle.reading.specs.declared.Phase.the-variants.{Asking}
 use Rattle.reading.specs.Card.{Reading, Next, listingOf, readIndex, inPhase, refuse, loaded, counted, reads, readLine, unfinished, atEnd, start}
 use Rattle.card.specs.Files.{firstLine, printedFrom, coursePrints}
 use Rattle.card.proofs.Files.{line-frame, rest-shorter, prints, line-prints, stopped-prints}
-use Rattle.card.proofs.LineRefusals.{FrameWith, OutOfPlace, Question, answerTo, endVerdict, StopsWith, Comes, no-frame, out-of-place, past-limits, taken, ended, asked, Reached, at-start, after-line}
-use Rattle.card.proofs.LineRefusals.{line-comes, stands-in, reached-stands, taken-unfinished, unfinished-reads, end-place, line-11, line-in-time, line-silent, asking-stops, question-goes-on}
+use Rattle.card.proofs.LineCases.{FrameWith, OutOfPlace, Question, answerTo, endVerdict, StopsWith, Comes, no-frame, out-of-place, past-limits, taken, ended, asked, line-comes, taken-unfinished, unfinished-reads}
+use Rattle.card.proofs.Reached.{Reached, at-start, after-line, stands-in, reached-stands, end-place, line-in-time}
+use Rattle.card.proofs.LineRefusals.{line-11, line-silent, asking-stops, question-goes-on}
 use Rattle.card.proofs.RefusedLines.{refused-line-tells}
 
 -- ---- a file read so far

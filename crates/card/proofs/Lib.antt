@@ -4,6 +4,8 @@ pub mod Turns
 pub mod Runs
 pub mod RefusedLines
 pub mod FrameLines
+pub mod LineCases
+pub mod Reached
 pub mod LineRefusals
 pub mod QuestionRefusals
 pub mod FileRefusals

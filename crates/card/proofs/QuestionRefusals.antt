@@ -35,8 +35,9 @@ use Rattle.frames.proofs.Lengths.{length-refused, length-number}
 use Rattle.reading.specs.declared.Phase.the-variants.{Asking}
 use Rattle.reading.specs.Card.{Reading, Next, listingOf, readIndex, refuse, answered, unitsPrinted, listPrinted, counted, reads, readLine, unfinished}
 use Rattle.card.proofs.RefusedLines.{refusal-8, refusal-9, refused-number-tells, refused-line-tells}
-use Rattle.card.proofs.LineRefusals.{FrameWith, Question, answerTo, StopsWith, Comes, no-frame, out-of-place, past-limits, taken, ended, asked, Reached, QuestionsDue}
-use Rattle.card.proofs.LineRefusals.{each-kind, line-comes, stands-in, reached-stands, not-stopped, taken-unfinished, line-silent, question-goes-on}
+use Rattle.card.proofs.LineCases.{FrameWith, Question, answerTo, StopsWith, Comes, no-frame, out-of-place, past-limits, taken, ended, asked, each-kind, line-comes, taken-unfinished}
+use Rattle.card.proofs.Reached.{Reached, QuestionsDue, stands-in, reached-stands}
+use Rattle.card.proofs.LineRefusals.{not-stopped, line-silent, question-goes-on}
 
 -- ---- the case, in 01's words
 
