@@ -22,13 +22,14 @@ use Rattle.frames.specs.Lines.{lineOf}
 use Rattle.frames.specs.Printed.{builtLine, refusedLine}
 use Rattle.frames.proofs.Frames.{line-feed-last}
 use Rattle.reading.specs.declared.Phase.the-variants.{Asking}
-use Rattle.reading.specs.Card.{Reading, Next, listingOf, readIndex, inPhase, refuse, loaded, counted, reads, readLine, unfinished, atEnd, start}
+use Rattle.reading.specs.Card.{Reading, Next, listingOf, readIndex, inPhase, refuse, loaded, counted, reads, readLine, unfinished, start}
 use Rattle.card.specs.Files.{firstLine, printedFrom, coursePrints}
 use Rattle.card.proofs.Files.{line-frame, rest-shorter, prints, line-prints, stopped-prints}
-use Rattle.card.proofs.LineCases.{FrameWith, OutOfPlace, Question, answerTo, endVerdict, StopsWith, Comes, no-frame, out-of-place, past-limits, taken, ended, asked, line-comes, taken-unfinished, unfinished-reads}
+use Rattle.card.proofs.LineCases.{EightDigits, FrameWith, Question, answerTo, endVerdict, StopsWith, Comes, no-frame, out-of-place, past-limits, taken, ended, asked, line-comes, taken-unfinished, unfinished-reads}
 use Rattle.card.proofs.Reached.{Reached, at-start, after-line, stands-in, reached-stands, end-place, line-in-time}
+use Rattle.card.proofs.QuestionRefusals.{BadQuestion, line-8}
 use Rattle.card.proofs.LineRefusals.{line-11, line-silent, asking-stops, question-goes-on}
-use Rattle.card.proofs.RefusedLines.{refused-line-tells}
+use Rattle.frames.proofs.RefusedLines.{refused-line-tells}
 
 -- ---- a file read so far
 
@@ -37,10 +38,10 @@ pub data ReadSoFar (file : List ℕ) : Reading → List ℕ → List ℕ → Typ
   nothing : ReadSoFar file start [] file
   one-more : {r : Reading} {printed : List ℕ} (b : ℕ) (bs : List ℕ) → ReadSoFar file r printed (b ∷ bs)
       → ReadSoFar
-          file
-          (readLine r (firstLine (b ∷ bs)) .reading)
-          (printed ++ readLine r (firstLine (b ∷ bs)) .printed)
-          (drop (length (firstLine (b ∷ bs))) (b ∷ bs))
+      file
+      (readLine r (firstLine (b ∷ bs)) .reading)
+      (printed ++ readLine r (firstLine (b ∷ bs)) .printed)
+      (drop (length (firstLine (b ∷ bs))) (b ∷ bs))
 
 module _ (file : List ℕ) where
   pub so-far-reached : {r : Reading} {printed rest : List ℕ} → ReadSoFar file r printed rest → Reached r
@@ -98,6 +99,14 @@ module _ (file : List ℕ) where
         subst (λ (x : Next). ReadSoFar file (x .reading) (printed ++ x .printed) (drop (length (firstLine (b ∷ bs))) (b ∷ bs)))
         (question-goes-on r (firstLine (b ∷ bs)) f) (one-more b bs q)
 
+    -- a question with a bad argument prints refusal 8, and the next line is read
+    pub eight-goes-on : r .phase ≡ Asking → (w : ℕ) → EightDigits w
+        → FrameWith (firstLine (b ∷ bs)) (λ f. Question r f × BadQuestion (r .n) (r .k) (f .kind) (f .a) (f .b) w)
+        → ReadSoFar file (counted r) (printed ++ refusedLine (refusal.BadArgument w)) (drop (length (firstLine (b ∷ bs))) (b ∷ bs))
+    eight-goes-on a w small f =
+        subst (λ (x : Next). ReadSoFar file (x .reading) (printed ++ x .printed) (drop (length (firstLine (b ∷ bs))) (b ∷ bs)))
+        (line-8 r (firstLine (b ∷ bs)) (so-far-reached q) a w small .1 f) (one-more b bs q)
+
   -- ---- the end of the file
 
   module _ {r : Reading} {printed : List ℕ} (q : ReadSoFar file r printed []) where
@@ -133,7 +142,7 @@ or-on (inr (inr c)) on = on c
 module _ (file : List ℕ) where
   -- a refusal comes before the end of 04, with a place of eight digits at most
   abbrev pub RefusedFirst : Type 0
-  RefusedFirst = (s : Refusal) × (placeOf s < 4294967296) × FirstRefusal file s
+  RefusedFirst = (s : Refusal) × (EightDigits (placeOf s)) × FirstRefusal file s
 
   -- after some lines the index is built, and `built` is all that is printed so far
   abbrev pub BuiltSoFar : Type 0
@@ -155,7 +164,7 @@ module _ (file : List ℕ) where
     so-far-next : {x : Next} → readLine r line ≡ x → ReadSoFar file (x .reading) (x .printed) rest
     so-far-next e = subst (λ (x : Next). ReadSoFar file (x .reading) (x .printed) rest) e (one-more b bs q)
 
-    refused : (s : Refusal) → placeOf s < 4294967296 → StopsWith r line s → RefusedFirst ⊎ BuiltSoFar ⊎ OneMore
+    refused : (s : Refusal) → EightDigits (placeOf s) → StopsWith r line s → RefusedFirst ⊎ BuiltSoFar ⊎ OneMore
     refused s small z = inl (s, small, at-line b bs q u z)
 
     step : Comes r line → RefusedFirst ⊎ BuiltSoFar ⊎ OneMore
@@ -185,7 +194,7 @@ module _ (file : List ℕ) where
           (λ s. go turns (s .0) (drop (length (firstLine (b ∷ bs))) (b ∷ bs)) (omega (arith, rest-shorter b bs)) (s .2) (s .1))
 
   -- a file prints one refusal and nothing else exactly when it is the first before the end of 04
-  pub file-refused : (s : Refusal) → placeOf s < 4294967296 → (coursePrints file ≡ refusedLine s) ↔ FirstRefusal file s
+  pub file-refused : (s : Refusal) → EightDigits (placeOf s) → (coursePrints file ≡ refusedLine s) ↔ FirstRefusal file s
   unfolding builtLine refusedLine
   file-refused s small = (λ h. to refused-or-built h, λ f. from f)
     where

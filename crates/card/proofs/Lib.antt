@@ -2,8 +2,6 @@
 pub mod Files
 pub mod Turns
 pub mod Runs
-pub mod RefusedLines
-pub mod FrameLines
 pub mod LineCases
 pub mod Reached
 pub mod LineRefusals

@@ -41,6 +41,10 @@ use Rattle.card.proofs.Turns.{head-taken, head-not, track-taken, track-
 abbrev pub FrameWith : List ℕ → (Frame → Type 0) → Type 0
 FrameWith line P = (f : Frame) × (lineOf line ≡ IsFrame f) × P f
 
+-- a number of eight digits at most, as a place is printed
+abbrev pub EightDigits : ℕ → Type 0
+EightDigits x = x < 4294967296
+
 -- 12: a frame not allowed there
 pub data OutOfPlace (r : Reading) (f : Frame) : Type 0 where
   -- line 65,536, or a later one

@@ -23,8 +23,8 @@ use Rattle.reading.specs.declared.Phase.{Phase}
 use Rattle.reading.specs.declared.Phase.the-variants.{Head, Tracks, Needs, Asking, Stopped}
 use Rattle.reading.specs.Card.{Reading, Next, readIndex, refuse, loaded, answered, counted, reads, readLine, unfinished}
 use Rattle.card.proofs.Files.{stopped-line, no-frame-line}
-use Rattle.card.proofs.RefusedLines.{refused-number-tells, refused-line-tells}
-use Rattle.card.proofs.LineCases.{out-of-place-line, past-limits-line, end-line, question-line, line-comes, taken-unfinished, unfinished-reads, FrameWith, endVerdict, answerTo, StopsWith, OutOfPlace, PastLimits, RightEnd, Question, Taken, Comes, head-off, need-8193, head, track, last-track, need, no-frame, out-of-place, past-limits, taken, ended, asked}
+use Rattle.frames.proofs.RefusedLines.{refused-number-tells, refused-line-tells}
+use Rattle.card.proofs.LineCases.{EightDigits, out-of-place-line, past-limits-line, end-line, question-line, line-comes, taken-unfinished, unfinished-reads, FrameWith, endVerdict, answerTo, StopsWith, OutOfPlace, PastLimits, RightEnd, Question, Taken, Comes, head-off, need-8193, head, track, last-track, need, no-frame, out-of-place, past-limits, taken, ended, asked}
 use Rattle.card.proofs.Reached.{stands-in, reached-stands, stands-in-time, line-in-time, end-never, end-not-1, end-place, Stands, Reached, NeedsDue}
 
 -- ---- what stops a reading
@@ -132,7 +132,7 @@ module _ (r : Reading) (line : List ℕ) (h : reads (r .phase) ≡ true) (reache
       to (cause-end o x v p) = absurd (end-not-1 r (end-due (o .2)) x (refused-number-tells x refusal.OutOfLimits p) v)
 
   -- 2 to 7 come exactly at 04, once its own count and filler are found right, where the listing read meets them
-  pub line-2-to-7 : (s : Refusal) → 2 ≤ numberOf s → numberOf s ≤ 7 → placeOf s < 4294967296
+  pub line-2-to-7 : (s : Refusal) → 2 ≤ numberOf s → numberOf s ≤ 7 → EightDigits (placeOf s)
       → StopsWith r line s ↔ (FrameWith line (RightEnd r) × (endVerdict r ≡ Refused s))
   unfolding loaded
   line-2-to-7 s from to place = (
@@ -147,7 +147,7 @@ module _ (r : Reading) (line : List ℕ) (h : reads (r .phase) ≡ true) (reache
       only (cause-end o x v p) = (o, v ∙ ap Refused (refused-line-tells x s p (end-place r (end-due (o .2)) x v) place))
 
   -- 11 and 12 have the line's own number for their place
-  pub line-place : (s : Refusal) → 10 < numberOf s → placeOf s < 4294967296 → StopsWith r line s → placeOf s ≡ r .lines + 1
+  pub line-place : (s : Refusal) → 10 < numberOf s → EightDigits (placeOf s) → StopsWith r line s → placeOf s ≡ r .lines + 1
   line-place s n place q = only (cause r line s (line-comes r line h) q)
     where
       few : (phase : Phase) → reads phase ≡ true → Stands phase r → r .lines ≤ 65535
@@ -157,7 +157,7 @@ module _ (r : Reading) (line : List ℕ) (h : reads (r .phase) ≡ true) (reache
       few Asking t s = s .lines-few
       few Stopped t s = absurd (not-both t refl)
 
-      number : r .lines + 1 < 4294967296
+      number : EightDigits (r .lines + 1)
       number = omega (arith, few (r .phase) h (reached-stands reached))
 
       only : Cause r line s → placeOf s ≡ r .lines + 1

@@ -4,8 +4,8 @@
 use Prim.Native.Nat.{ℕ, _+_, _/_, _%_, _≤_, _<_}
 use mathlib.Core.Path.{_≡_, refl, sym, ap, _∙_}
 use mathlib.Core.Bool.{Bool, true, false}
-use mathlib.Core.List.{List, _++_}
-use mathlib.Core.Logic.{_↔_, Iff·trans, _⊎_, inl, inr}
+use mathlib.Core.List.{List}
+use mathlib.Core.Logic.{_↔_, inl, inr}
 use native.Mathlib.Omega.{arith}
 use native.Mathlib.Decide.{decLt, ℕ-discrete}
 use lib.ListN.{length, getD}
@@ -24,18 +24,15 @@ use Rattle.rules.proofs.Accepted.{listing-fine}
 use Rattle.rules.proofs.Builts.{whole-built}
 use Rattle.rules.proofs.Wholes.{Whole}
 use Rattle.rules.proofs.Checks.{Off}
-use Rattle.rules.proofs.Verdicts.{refused-fine}
 use Rattle.rules.proofs.Cases.{FirstBad, pair-refused, number-refused}
 use Rattle.rules.proofs.Refusing.{pair-9, pair-8, pair-others, bound-9, bound-8, bound-others, unit-9, unit-8, unit-others}
 use Rattle.frames.specs.declared.Frame.{Frame}
-use Rattle.frames.specs.declared.Line.the-variants.{IsFrame}
-use Rattle.frames.specs.Lines.{lineOf}
 use Rattle.frames.specs.Printed.{hexDigit, hexOf, pairLine, numberLine, listLine, refusedLine}
 use Rattle.frames.proofs.Lengths.{length-refused, length-number}
 use Rattle.reading.specs.declared.Phase.the-variants.{Asking}
-use Rattle.reading.specs.Card.{Reading, Next, listingOf, readIndex, refuse, answered, unitsPrinted, listPrinted, counted, reads, readLine, unfinished}
-use Rattle.card.proofs.RefusedLines.{refusal-8, refusal-9, refused-number-tells, refused-line-tells}
-use Rattle.card.proofs.LineCases.{FrameWith, Question, answerTo, StopsWith, Comes, no-frame, out-of-place, past-limits, taken, ended, asked, each-kind, line-comes, taken-unfinished}
+use Rattle.reading.specs.Card.{Reading, Next, listingOf, readIndex, answered, unitsPrinted, listPrinted, counted, reads, readLine, unfinished}
+use Rattle.frames.proofs.RefusedLines.{refusal-8, refusal-9, refused-number-tells, refused-line-tells}
+use Rattle.card.proofs.LineCases.{EightDigits, FrameWith, Question, answerTo, StopsWith, Comes, no-frame, out-of-place, past-limits, taken, ended, asked, each-kind, line-comes, taken-unfinished}
 use Rattle.card.proofs.Reached.{Reached, QuestionsDue, stands-in, reached-stands}
 use Rattle.card.proofs.LineRefusals.{not-stopped, line-silent, question-goes-on}
 
@@ -104,7 +101,7 @@ module _ {v : Verdict} {l : List ℕ} {P : ℕ → Type 0} (shows : Shows v l) (
   shown-only : (s : Refusal) → l ≡ refusedLine s → numberOf s ≡ 8
   shown-only s q = let r = shown s q v refl in sym (refused-number-tells (r .0) s (r .2)) ∙ e .only (r .0) (r .1)
 
-  shown-8 : (w : ℕ) → w < 4294967296 → (l ≡ refusedLine (BadArgument w)) ↔ P w
+  shown-8 : (w : ℕ) → EightDigits w → (l ≡ refusedLine (BadArgument w)) ↔ P w
   shown-8 w small = (to, λ p. shows .refused (BadArgument w) (e .eight w .1 p))
     where
       to : l ≡ refusedLine (BadArgument w) → P w
@@ -185,7 +182,7 @@ module _ (x : Index) (is-whole : Whole x) (a b : ℕ) where
   abbrev Told : ℕ → Type 0
   Told kind =
       ((s : Refusal) → answerTo x kind a b ≡ refusedLine s → numberOf s ≡ 8)
-      × ((w : ℕ) → w < 4294967296 → (answerTo x kind a b ≡ refusedLine (BadArgument w)) ↔ BadQuestion n k kind a b w)
+      × ((w : ℕ) → EightDigits w → (answerTo x kind a b ≡ refusedLine (BadArgument w)) ↔ BadQuestion n k kind a b w)
 
   told : {v : Verdict} {l : List ℕ} {P : ℕ → Type 0} (kind : ℕ) → answerTo x kind a b ≡ l → Shows v l → Eight v P
       → ((w : ℕ) → P w → BadQuestion n k kind a b w) → ((w : ℕ) → BadQuestion n k kind a b w → P w) → Told kind
@@ -254,7 +251,7 @@ module _ (r : Reading) (line : List ℕ) (reached : Reached r) where
   question-others {f} q = question-told (readIndex r) (asked-whole (q .due)) (f .a) (f .b) (f .kind) (q .kind-from) (q .kind-to) .0
 
   -- a question is refused 8 exactly when an argument of it is bad, and the reading goes on
-  pub line-8 : r .phase ≡ Asking → (w : ℕ) → w < 4294967296
+  pub line-8 : r .phase ≡ Asking → (w : ℕ) → EightDigits w
       → (readLine r line ≡ answered (counted r) (refusedLine (BadArgument w)))
       ↔ FrameWith line (λ f. Question r f × BadQuestion (r .n) (r .k) (f .kind) (f .a) (f .b) w)
   unfolding builtIndex builtHead

@@ -12,7 +12,7 @@ use Rattle.rules.specs.declared.Refusal.the-variants as refusal
 use Rattle.rules.specs.declared.Verdict.{Verdict}
 use Rattle.rules.specs.declared.Verdict.the-variants.{Fine, Refused}
 use Rattle.rules.specs.Refusals.{numberOf, placeOf}
-use Rattle.rules.specs.Listing.{pairs, within, listingVerdict}
+use Rattle.rules.specs.Listing.{pairs, listingVerdict}
 use Rattle.rules.specs.Order.{soundVerdict}
 use Rattle.rules.proofs.Ranges.{true-or-false, not-both}
 use Rattle.rules.proofs.Verdicts.{then-fine}
@@ -26,8 +26,8 @@ use Rattle.reading.specs.declared.Phase.{Phase}
 use Rattle.reading.specs.declared.Phase.the-variants.{Head, Tracks, Needs, Asking, Stopped}
 use Rattle.reading.specs.Card.{Reading, Next, listingOf, refuse, loaded, counted, reads, readLine, unfinished, start}
 use Rattle.card.proofs.Files.{stopped-line}
-use Rattle.card.proofs.RefusedLines.{refusal-1}
-use Rattle.card.proofs.LineCases.{line-comes, endVerdict, StopsWith, Taken, Comes, head, track, last-track, need, no-frame, out-of-place, past-limits, taken, ended, asked}
+use Rattle.frames.proofs.RefusedLines.{refusal-1}
+use Rattle.card.proofs.LineCases.{EightDigits, line-comes, endVerdict, StopsWith, Taken, Comes, head, track, last-track, need, no-frame, out-of-place, past-limits, taken, ended, asked}
 
 -- ---- what the lines so far have settled
 
@@ -194,11 +194,11 @@ module _ (r : Reading) (d : NeedsDue r) where
       go (inr q) = sound-never (listingOf r) (λ e. omega arith) (q .1)
 
   -- a refusal at 04 has a place of eight digits at most
-  pub end-place : (s : Refusal) → endVerdict r ≡ Refused s → placeOf s < 4294967296
+  pub end-place : (s : Refusal) → endVerdict r ≡ Refused s → EightDigits (placeOf s)
   end-place s v = go s (then-refused (listingVerdict (listingOf r)) (soundVerdict (listingOf r)) s .0 v) v
     where
       go : (s : Refusal) → (listingVerdict (listingOf r) ≡ Refused s) ⊎ ((listingVerdict (listingOf r) ≡ Fine) × (soundVerdict (listingOf r) ≡ Refused s))
-          → endVerdict r ≡ Refused s → placeOf s < 4294967296
+          → endVerdict r ≡ Refused s → EightDigits (placeOf s)
       go refusal.OutOfLimits q v = omega arith
       go (refusal.NoSuchTrack u) (inl q) v = omega (arith, listing-2 (listingOf r) u .0 q .1 .holds, d .n-in)
       go (refusal.NoSuchTrack u) (inr q) v = absurd (sound-never (listingOf r) (λ e. omega arith) (q .1))

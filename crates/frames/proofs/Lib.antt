@@ -3,3 +3,5 @@ pub mod Lengths
 pub mod Overs
 pub mod Digits
 pub mod Frames
+pub mod FrameLines
+pub mod RefusedLines

@@ -1,23 +1,22 @@
 -- A line is a frame exactly when it is ten lower-case digits and a line feed.
 -- Assumes nothing.
-use Prim.Native.Nat.{ℕ, _-_, _≤_, _<_}
-use mathlib.Core.Path.{_≡_, refl, sym, ap, _∙_}
-use mathlib.Core.Bool.{true, false, cond}
+use Prim.Native.Nat.{ℕ, _≤_, _<_}
+use mathlib.Core.Path.{_≡_, refl, sym, _∙_}
+use mathlib.Core.Bool.{true, false}
 use mathlib.Core.List.{List}
 use mathlib.Core.Logic.{_↔_, _⊎_, inl, inr}
 use native.Mathlib.Omega.{arith}
 use lib.ListN.{length, getD, drop}
 use lib.Dec.{ltb}
 use borrow.Author.Tests.{lt-ltb}
-use Rattle.rules.specs.Ranges.{every}
 use Rattle.rules.specs.Listing.{within}
 use Rattle.rules.proofs.Ranges.{true-or-false, every-all}
 use Rattle.rules.proofs.Verdicts.{and-both, within-is, is-within, not-within}
 use Rattle.frames.specs.declared.Frame.{Frame}
 use Rattle.frames.specs.declared.Line.{Line}
 use Rattle.frames.specs.declared.Line.the-variants.{IsFrame, NoFrame}
 use Rattle.frames.specs.Lines.{digitOf, digits, spelled, numbersOf, lineOf}
 use Rattle.frames.proofs.Frames.{digits-one, digits-add, line-kind, framed, line-digits}
 
 -- 0 to 9, a to f
 abbrev pub LowerDigit : ℕ → Type 0
@@ -58,8 +57,7 @@ module _ (line : List ℕ) where
       let ten : digits line 10 ≡ true = every-all (λ i. ltb (digitOf (getD line i 0)) 16) 10
       (λ i l. lt-ltb (digitOf (getD line i 0)) 16 (lower-digit (getD line i 0) (s .digit-each i l)))
       in
-      let parts = and-both (digits line 2) (digits (drop 2 line) 8) (sym (digits-add line 2 8) ∙ ten) in
-      (
+      let parts = and-both (digits line 2) (digits (drop 2 line) 8) (sym (digits-add line 2 8) ∙ ten) in (
         record { kind = spelled line 2; a = spelled (drop 2 line) 4; b = spelled (drop 4 (drop 2 line)) 4 },
         line-kind line (s .long) (s .feed) (parts .0) ∙ rw (parts .1),
       )
