@@ -7,3 +7,4 @@ pub mod Reached
 pub mod LineRefusals
 pub mod QuestionRefusals
 pub mod FileRefusals
+pub mod PrintedCase
