@@ -8,20 +8,23 @@ use mathlib.Core.Bool.{true, false}
 use mathlib.Core.List.{List, []}
 use mathlib.Core.Logic.{_↔_, _⊎_, inl, inr}
 use native.Mathlib.Omega.{arith}
+use lib.ListN.{length}
 use Rattle.rules.specs.declared.Refusal.{Refusal}
 use Rattle.rules.specs.declared.Refusal.the-variants as refusal
 use Rattle.rules.specs.declared.Verdict.{Verdict}
 use Rattle.rules.specs.declared.Verdict.the-variants.{Fine, Refused}
 use Rattle.rules.specs.Refusals.{numberOf, placeOf}
+use Rattle.rules.specs.Index.{builtBits}
 use Rattle.rules.proofs.Ranges.{true-or-false, not-both}
 use Rattle.rules.proofs.Checks.{Fails, passes}
 use Rattle.frames.specs.declared.Frame.{Frame}
 use Rattle.frames.specs.declared.Line.the-variants.{NoFrame}
 use Rattle.frames.specs.Lines.{lineOf}
 use Rattle.frames.specs.Printed.{refusedLine}
+use Rattle.frames.proofs.Lengths.{length-built, length-refused}
 use Rattle.reading.specs.declared.Phase.{Phase}
 use Rattle.reading.specs.declared.Phase.the-variants.{Head, Tracks, Needs, Asking, Stopped}
-use Rattle.reading.specs.Card.{Reading, Next, readIndex, refuse, loaded, answered, counted, reads, readLine, unfinished}
+use Rattle.reading.specs.Card.{Reading, Next, listingOf, readIndex, refuse, loaded, answered, counted, reads, readLine, unfinished}
 use Rattle.card.proofs.Files.{stopped-line, no-frame-line}
 use Rattle.frames.proofs.RefusedLines.{refused-number-tells, refused-line-tells}
 use Rattle.card.proofs.LineCases.{EightDigits, out-of-place-line, past-limits-line, end-line, question-line, line-comes, taken-unfinished, unfinished-reads, FrameWith, endVerdict, answerTo, StopsWith, OutOfPlace, PastLimits, RightEnd, Question, Taken, Comes, head-off, need-8193, head, track, last-track, need, no-frame, out-of-place, past-limits, taken, ended, asked}
@@ -260,6 +263,30 @@ line-silent r line u = go (true-or-false (reads (r .phase)))
     go : (reads (r .phase) ≡ true) ⊎ (reads (r .phase) ≡ false) → (unfinished (r .phase) ≡ true) × (readLine r line .printed ≡ [])
     go (inl t) = by (line-comes r line t)
     go (inr t) = absurd (not-both (unfinished-reads (r .phase) (says (stopped-line r line t))) t)
+
+-- before the end of 04 every refusal that is printed stops the reading
+pub before-04-stops : (r : Reading) (line : List ℕ) → unfinished (r .phase) ≡ true → (s : Refusal) → readLine r line .printed ≡ refusedLine s
+    → reads (readLine r line .reading .phase) ≡ false
+unfolding loaded refuse
+before-04-stops r line u s p = go (line-comes r line (unfinished-reads (r .phase) u))
+  where
+    as-long : {x : Next} → readLine r line ≡ x → length (x .printed) ≡ 20
+    as-long q = ap (λ (y : Next). length (y .printed)) (sym q) ∙ ap (λ (l : List ℕ). length l) p ∙ length-refused s
+
+    ends : {x : Next} → readLine r line ≡ x → reads (x .reading .phase) ≡ false → reads (readLine r line .reading .phase) ≡ false
+    ends q t = ap (λ (y : Next). reads (y .reading .phase)) q ∙ t
+
+    at-end : (v : Verdict) → readLine r line ≡ loaded (counted r) v → reads (readLine r line .reading .phase) ≡ false
+    at-end Fine q = absurd (omega (arith, as-long q, length-built (builtBits (listingOf r))))
+    at-end (Refused x) q = ends q refl
+
+    go : Comes r line → reads (readLine r line .reading .phase) ≡ false
+    go (no-frame e q) = ends q refl
+    go (out-of-place f e o q) = ends q refl
+    go (past-limits f e o q) = ends q refl
+    go (taken f e r′ t q) = absurd (omega (arith, as-long q))
+    go (ended f e o q) = at-end (endVerdict r) q
+    go (asked f e o q) = absurd (not-both u (ap unfinished (o .due)))
 
 -- after 04 only 11 and 12 stop a reading
 pub asking-stops : (r : Reading) (line : List ℕ) → r .phase ≡ Asking → (s : Refusal) → StopsWith r line s → 10 < numberOf s

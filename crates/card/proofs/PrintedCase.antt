@@ -16,6 +16,7 @@ use Rattle.frames.specs.Printed.{hexDigit, hexOf, decimalOf, builtLine, refused
 use Rattle.reading.specs.Card.{refuse, headFrame, trackFrame, needFrame, loaded, endFrame, listPrinted, questionFrame, frameInPhase, readLine}
 use Rattle.card.specs.Files.{firstLine, printedFrom, coursePrints}
 
+-- the file that 01 gives, a line a row
 abbrev pub givenFile : List ℕ
 givenFile =
     (48 ∷ 49 ∷ 48 ∷ 48 ∷ 48 ∷ 51 ∷ 48 ∷ 48 ∷ 48 ∷ 50 ∷ 10 ∷ [])
@@ -31,6 +32,7 @@ givenFile =
     ++ (49 ∷ 48 ∷ 48 ∷ 48 ∷ 48 ∷ 52 ∷ 48 ∷ 48 ∷ 48 ∷ 49 ∷ 10 ∷ [])
     ++ (49 ∷ 50 ∷ 48 ∷ 48 ∷ 48 ∷ 49 ∷ 48 ∷ 48 ∷ 48 ∷ 48 ∷ 10 ∷ [])
 
+-- and what the program prints for it
 abbrev pub printedLines : List ℕ
 printedLines =
     (98 ∷ 117 ∷ 105 ∷ 108 ∷ 116 ∷ 32 ∷ 48 ∷ 48 ∷ 48 ∷ 48 ∷ 48 ∷ 48 ∷ 48 ∷ 54 ∷ 10 ∷ [])
@@ -40,6 +42,7 @@ printedLines =
     ++ (114 ∷ 101 ∷ 102 ∷ 117 ∷ 115 ∷ 101 ∷ 100 ∷ 32 ∷ 48 ∷ 56 ∷ 32 ∷ 48 ∷ 48 ∷ 48 ∷ 48 ∷ 48 ∷ 48 ∷ 48 ∷ 49 ∷ 10 ∷ [])
     ++ (48 ∷ 48 ∷ 48 ∷ 48 ∷ 10 ∷ [])
 
+-- the course program prints exactly this
 pub printed-case : coursePrints givenFile ≡ printedLines
 unfolding sum count greatest smallest first some every keep table rows track inTrack refuseFirst countedNeeds inLimits badUnits badPair unitsAbove outOfOrder pairsVerdict listingVerdict leads needs unitBefore unsound soundVerdict low high vectorBits vectorRoom offset roomBits wordCount meantBits digit bit wordOf onesBefore rank placeOfOne placeOfZero oneAt builtBit builtWords builtDirectory builtHead builtBits builtIndex vectorOf lowAt highAt inRange tracksFit lengthsTrue areasReach spareClear directoryTrue vectorsTrue conditions firstFailing fault whole kind10By kind11By unitsWhere unitAt wholeVerdict pairOutcome digitOf digits spelled numbersOf lineOf hexDigit hexOf decimalOf builtLine refusedLine pairLine unitsOf listLine refuse headFrame trackFrame needFrame loaded endFrame listPrinted questionFrame frameInPhase readLine firstLine printedFrom coursePrints
 printed-case = refl
