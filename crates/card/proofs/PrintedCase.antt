@@ -3,13 +3,13 @@
 use Prim.Native.Nat.{ℕ}
 use mathlib.Core.Path.{_≡_, refl}
 use mathlib.Core.List.{List, [], _∷_, _++_}
-use Rattle.rules.specs.Ranges.{sum, count, greatest, smallest, first, some, every, keep, table, rows}
+use Rattle.rules.specs.Ranges.{sum, count, greatest, smallest, first, some, every, keep, table}
 use Rattle.rules.specs.Listing.{track, inTrack, refuseFirst, countedNeeds, inLimits, badUnits, badPair, unitsAbove, outOfOrder, pairsVerdict, listingVerdict}
-use Rattle.rules.specs.Order.{leads, needs, unitBefore, unsound, soundVerdict, low, high}
+use Rattle.rules.specs.Order.{leads, needs, unitBefore, unsound, soundVerdict, low}
 use Rattle.rules.specs.Layout.{vectorBits, vectorRoom, offset, roomBits, wordCount, meantBits}
-use Rattle.rules.specs.Bits.{digit, bit, wordOf, onesBefore, rank, placeOfOne, placeOfZero}
+use Rattle.rules.specs.Bits.{digit, bit, wordOf, onesBefore, placeOfOne, placeOfZero}
 use Rattle.rules.specs.Index.{oneAt, builtBit, builtWords, builtDirectory, builtHead, builtBits, builtIndex, vectorOf, lowAt, highAt, inRange, tracksFit, lengthsTrue, areasReach, spareClear, directoryTrue, vectorsTrue, conditions, firstFailing, fault, whole}
-use Rattle.rules.specs.Questions.{kind10By, kind11By, unitsWhere, unitAt}
+use Rattle.rules.specs.Questions.{kind10By, kind11By, unitsWhere}
 use Rattle.rules.specs.Outcomes.{wholeVerdict, pairOutcome}
 use Rattle.frames.specs.Lines.{digitOf, digits, spelled, numbersOf, lineOf}
 use Rattle.frames.specs.Printed.{hexDigit, hexOf, decimalOf, builtLine, refusedLine, pairLine, unitsOf, listLine}
@@ -44,5 +44,5 @@ printedLines =
 
 -- the course program prints exactly this
 pub printed-case : coursePrints givenFile ≡ printedLines
-unfolding sum count greatest smallest first some every keep table rows track inTrack refuseFirst countedNeeds inLimits badUnits badPair unitsAbove outOfOrder pairsVerdict listingVerdict leads needs unitBefore unsound soundVerdict low high vectorBits vectorRoom offset roomBits wordCount meantBits digit bit wordOf onesBefore rank placeOfOne placeOfZero oneAt builtBit builtWords builtDirectory builtHead builtBits builtIndex vectorOf lowAt highAt inRange tracksFit lengthsTrue areasReach spareClear directoryTrue vectorsTrue conditions firstFailing fault whole kind10By kind11By unitsWhere unitAt wholeVerdict pairOutcome digitOf digits spelled numbersOf lineOf hexDigit hexOf decimalOf builtLine refusedLine pairLine unitsOf listLine refuse headFrame trackFrame needFrame loaded endFrame listPrinted questionFrame frameInPhase readLine firstLine printedFrom coursePrints
+unfolding sum count greatest smallest first some every keep table track inTrack refuseFirst countedNeeds inLimits badUnits badPair unitsAbove outOfOrder pairsVerdict listingVerdict leads needs unitBefore unsound soundVerdict low vectorBits vectorRoom offset roomBits wordCount meantBits digit bit wordOf onesBefore placeOfOne placeOfZero oneAt builtBit builtWords builtDirectory builtHead builtBits builtIndex vectorOf lowAt highAt inRange tracksFit lengthsTrue areasReach spareClear directoryTrue vectorsTrue conditions firstFailing fault whole kind10By kind11By unitsWhere wholeVerdict pairOutcome digitOf digits spelled numbersOf lineOf hexDigit hexOf decimalOf builtLine refusedLine pairLine unitsOf listLine refuse headFrame trackFrame needFrame loaded endFrame listPrinted questionFrame frameInPhase readLine firstLine printedFrom coursePrints
 printed-case = refl
