@@ -28,10 +28,14 @@ use Rattle.card.proofs.Files.{line-frame, rest-shorter, prints, line-pr
 use Rattle.card.proofs.LineCases.{EightDigits, FrameWith, Question, answerTo, endVerdict, StopsWith, Comes, no-frame, out-of-place, past-limits, taken, ended, asked, line-comes, taken-unfinished, unfinished-reads}
 use Rattle.card.proofs.Reached.{Reached, at-start, after-line, stands-in, reached-stands, end-place, line-in-time}
 use Rattle.card.proofs.QuestionRefusals.{BadQuestion, line-8}
-use Rattle.card.proofs.LineRefusals.{line-11, line-silent, asking-stops, question-goes-on}
+use Rattle.card.proofs.LineRefusals.{line-11, line-counted, line-reads, line-silent, asking-stops, question-goes-on}
 use Rattle.frames.proofs.RefusedLines.{refused-line-tells}
 
 -- ---- a file read so far
+
+-- the bytes past the first line
+abbrev pub pastLine : List ℕ → List ℕ
+pastLine bytes = drop (length (firstLine bytes)) bytes
 
 -- after some lines of the file: the reading, all that was printed on the way, and the bytes that are left
 pub data ReadSoFar (file : List ℕ) : Reading → List ℕ → List ℕ → Type 0 where
@@ -41,12 +45,25 @@ pub data ReadSoFar (file : List ℕ) : Reading → List ℕ → List ℕ → Typ
       file
       (readLine r (firstLine (b ∷ bs)) .reading)
       (printed ++ readLine r (firstLine (b ∷ bs)) .printed)
-      (drop (length (firstLine (b ∷ bs))) (b ∷ bs))
+      (pastLine (b ∷ bs))
 
 module _ (file : List ℕ) where
   pub so-far-reached : {r : Reading} {printed rest : List ℕ} → ReadSoFar file r printed rest → Reached r
   so-far-reached nothing = at-start
   so-far-reached (one-more b bs q) = after-line (so-far-reached q) (firstLine (b ∷ bs))
+
+  -- how many lines that is
+  pub linesRead : {r : Reading} {printed rest : List ℕ} → ReadSoFar file r printed rest → ℕ
+  linesRead nothing = 0
+  linesRead (one-more b bs q) = linesRead q + 1
+
+  -- a reading that goes on has counted them, so that the place of 11 and 12 is the line's number in the file
+  pub so-far-counted : {r : Reading} {printed rest : List ℕ} (q : ReadSoFar file r printed rest) → reads (r .phase) ≡ true → r .lines ≡ linesRead q
+  unfolding linesRead
+  so-far-counted nothing h = refl
+  so-far-counted (one-more {r} b bs q) h =
+      let before = line-reads r (firstLine (b ∷ bs)) h in
+      line-counted r (firstLine (b ∷ bs)) before ∙ ap (λ (m : ℕ). m + 1) (so-far-counted q before)
 
   -- the file prints what was printed so far, and then what is printed from there on
   pub so-far-prints : {r : Reading} {printed rest : List ℕ} → ReadSoFar file r printed rest → coursePrints file ≡ printed ++ prints r rest
@@ -94,17 +111,17 @@ module _ (file : List ℕ) where
 
     -- a question is answered, or refused 8, and the next line is read
     pub question-read-on : (f : FrameWith (firstLine (b ∷ bs)) (Question r))
-        → ReadSoFar file (counted r) (printed ++ answerTo (readIndex r) (f .0 .kind) (f .0 .a) (f .0 .b)) (drop (length (firstLine (b ∷ bs))) (b ∷ bs))
+        → ReadSoFar file (counted r) (printed ++ answerTo (readIndex r) (f .0 .kind) (f .0 .a) (f .0 .b)) (pastLine (b ∷ bs))
     question-read-on f =
-        subst (λ (x : Next). ReadSoFar file (x .reading) (printed ++ x .printed) (drop (length (firstLine (b ∷ bs))) (b ∷ bs)))
+        subst (λ (x : Next). ReadSoFar file (x .reading) (printed ++ x .printed) (pastLine (b ∷ bs)))
         (question-goes-on r (firstLine (b ∷ bs)) f) (one-more b bs q)
 
     -- a question with a bad argument prints refusal 8, and the next line is read
     pub eight-goes-on : r .phase ≡ Asking → (w : ℕ) → EightDigits w
         → FrameWith (firstLine (b ∷ bs)) (λ f. Question r f × BadQuestion (r .n) (r .k) (f .kind) (f .a) (f .b) w)
-        → ReadSoFar file (counted r) (printed ++ refusedLine (refusal.BadArgument w)) (drop (length (firstLine (b ∷ bs))) (b ∷ bs))
+        → ReadSoFar file (counted r) (printed ++ refusedLine (refusal.BadArgument w)) (pastLine (b ∷ bs))
     eight-goes-on a w small f =
-        subst (λ (x : Next). ReadSoFar file (x .reading) (printed ++ x .printed) (drop (length (firstLine (b ∷ bs))) (b ∷ bs)))
+        subst (λ (x : Next). ReadSoFar file (x .reading) (printed ++ x .printed) (pastLine (b ∷ bs)))
         (line-8 r (firstLine (b ∷ bs)) (so-far-reached q) a w small .1 f) (one-more b bs q)
 
   -- ---- the end of the file
@@ -155,14 +172,11 @@ module _ (file : List ℕ) where
     abbrev line : List ℕ
     line = firstLine (b ∷ bs)
 
-    abbrev rest : List ℕ
-    rest = drop (length line) (b ∷ bs)
-
     abbrev OneMore : Type 0
-    OneMore = (r′ : Reading) × (unfinished (r′ .phase) ≡ true) × ReadSoFar file r′ [] rest
+    OneMore = (r′ : Reading) × (unfinished (r′ .phase) ≡ true) × ReadSoFar file r′ [] (pastLine (b ∷ bs))
 
-    so-far-next : {x : Next} → readLine r line ≡ x → ReadSoFar file (x .reading) (x .printed) rest
-    so-far-next e = subst (λ (x : Next). ReadSoFar file (x .reading) (x .printed) rest) e (one-more b bs q)
+    so-far-next : {x : Next} → readLine r line ≡ x → ReadSoFar file (x .reading) (x .printed) (pastLine (b ∷ bs))
+    so-far-next e = subst (λ (x : Next). ReadSoFar file (x .reading) (x .printed) (pastLine (b ∷ bs))) e (one-more b bs q)
 
     refused : (s : Refusal) → EightDigits (placeOf s) → StopsWith r line s → RefusedFirst ⊎ BuiltSoFar ⊎ OneMore
     refused s small z = inl (s, small, at-line b bs q u z)
@@ -176,7 +190,7 @@ module _ (file : List ℕ) where
     step (ended f e o z) = go (endVerdict r) refl
       where
         go : (v : Verdict) → endVerdict r ≡ v → RefusedFirst ⊎ BuiltSoFar ⊎ OneMore
-        go Fine v = inr (inl (inPhase Asking (counted r), rest, refl, so-far-next (z ∙ ap (loaded (counted r)) v)))
+        go Fine v = inr (inl (inPhase Asking (counted r), pastLine (b ∷ bs), refl, so-far-next (z ∙ ap (loaded (counted r)) v)))
         go (Refused x) v =
             refused x (end-place r (stands-in r (o .due) (reached-stands (so-far-reached file q))) x v) (z ∙ ap (loaded (counted r)) v)
     step (asked f e o z) = absurd (not-both u (ap unfinished (o .due)))
@@ -191,7 +205,7 @@ module _ (file : List ℕ) where
       go (suc turns) r [] l q u = inl (ended-first q u)
       go (suc turns) r (b ∷ bs) l q u =
           or-on (step r b bs q u (line-comes r (firstLine (b ∷ bs)) (unfinished-reads (r .phase) u)))
-          (λ s. go turns (s .0) (drop (length (firstLine (b ∷ bs))) (b ∷ bs)) (omega (arith, rest-shorter b bs)) (s .2) (s .1))
+          (λ s. go turns (s .0) (pastLine (b ∷ bs)) (omega (arith, rest-shorter b bs)) (s .2) (s .1))
 
   -- a file prints one refusal and nothing else exactly when it is the first before the end of 04
   pub file-refused : (s : Refusal) → EightDigits (placeOf s) → (coursePrints file ≡ refusedLine s) ↔ FirstRefusal file s
@@ -219,7 +233,7 @@ pub data QuestionsEnd (file : List ℕ) : Type 0 where
 module _ (file : List ℕ) where
   module _ {r : Reading} {printed : List ℕ} (b : ℕ) (bs : List ℕ) (q : ReadSoFar file r printed (b ∷ bs)) (a : r .phase ≡ Asking) where
     abbrev OneQuestion : Type 0
-    OneQuestion = (printed′ : List ℕ) × ReadSoFar file (counted r) printed′ (drop (length (firstLine (b ∷ bs))) (b ∷ bs))
+    OneQuestion = (printed′ : List ℕ) × ReadSoFar file (counted r) printed′ (pastLine (b ∷ bs))
 
     stopped : (s : Refusal) → StopsWith r (firstLine (b ∷ bs)) s → QuestionsEnd file ⊎ OneQuestion
     stopped s z = inl (at-refusal b bs q a s (asking-stops r (firstLine (b ∷ bs)) a s z) z (refusal-last file b bs q s z))
@@ -250,4 +264,4 @@ module _ (file : List ℕ) where
       go (suc turns) r printed [] l q a = at-last q a (ends-asking file q a)
       go (suc turns) r printed (b ∷ bs) l q a =
           end-or-on (question-step b bs q a (line-comes r (firstLine (b ∷ bs)) (ap reads a)))
-          (λ s. go turns (counted r) (s .0) (drop (length (firstLine (b ∷ bs))) (b ∷ bs)) (omega (arith, rest-shorter b bs)) (s .1) a)
+          (λ s. go turns (counted r) (s .0) (pastLine (b ∷ bs)) (omega (arith, rest-shorter b bs)) (s .1) a)

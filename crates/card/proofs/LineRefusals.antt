@@ -231,6 +231,42 @@ module _ (r : Reading) (line : List ℕ) (h : reads (r .phase) ≡ true) (reache
       to (ended f e o q) z = at-end (f, e, o) (endVerdict r) refl (sym q ∙ z)
       to (asked f e o q) z = absurd (not-both u (ap unfinished (o .due)))
 
+-- ---- the count of lines
+
+-- a line that is read is counted, whatever comes of it
+pub line-counted : (r : Reading) (line : List ℕ) → reads (r .phase) ≡ true → readLine r line .reading .lines ≡ r .lines + 1
+unfolding loaded refuse
+line-counted r line h = go (line-comes r line h)
+  where
+    says : {x : Next} → readLine r line ≡ x → x .reading .lines ≡ r .lines + 1 → readLine r line .reading .lines ≡ r .lines + 1
+    says q e = ap (λ (y : Next). y .reading .lines) q ∙ e
+
+    on : {f : Frame} {r′ : Reading} → Taken r f r′ → r′ .lines ≡ r .lines + 1
+    on (head p k a b q) = rw q
+    on (track p k u n q) = rw q
+    on (last-track p k u n q) = rw q
+    on (need p k n q) = rw q
+
+    at-end : (v : Verdict) → readLine r line ≡ loaded (counted r) v → readLine r line .reading .lines ≡ r .lines + 1
+    at-end Fine q = says q refl
+    at-end (Refused x) q = says q refl
+
+    go : Comes r line → readLine r line .reading .lines ≡ r .lines + 1
+    go (no-frame e q) = says q refl
+    go (out-of-place f e o q) = says q refl
+    go (past-limits f e o q) = says q refl
+    go (taken f e r′ t q) = says q (on t)
+    go (ended f e o q) = at-end (endVerdict r) q
+    go (asked f e o q) = says q refl
+
+-- a reading that goes on was going on before
+pub line-reads : (r : Reading) (line : List ℕ) → reads (readLine r line .reading .phase) ≡ true → reads (r .phase) ≡ true
+line-reads r line h = go (true-or-false (reads (r .phase)))
+  where
+    go : (reads (r .phase) ≡ true) ⊎ (reads (r .phase) ≡ false) → reads (r .phase) ≡ true
+    go (inl t) = t
+    go (inr t) = ap (λ (y : Next). reads (y .reading .phase)) (sym (stopped-line r line t)) ∙ h
+
 -- ---- before 04, and after it
 
 -- a line after which 04 is still to come prints nothing, and 04 was to come before it
