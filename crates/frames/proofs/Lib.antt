@@ -2,3 +2,5 @@
 pub mod Lengths
 pub mod Digits
 pub mod Frames
+pub mod FrameLines
+pub mod RefusedLines
