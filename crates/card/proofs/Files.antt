@@ -23,6 +23,7 @@ use Rattle.frames.proofs.Frames.{line-short, line-long, line-feed-last}
 use Rattle.reading.specs.declared.Phase.{Phase}
 use Rattle.reading.specs.declared.Phase.the-variants.{Head, Tracks, Needs, Asking, Stopped}
 use Rattle.reading.specs.Card.{Reading, Next, goOn, counted, reads, refuse, readLine, unfinished, atEnd, start}
+use Rattle.order.proofs.Turns.{stopped-line, no-frame-line}
 use Rattle.card.specs.Files.{firstLine, printedFrom, coursePrints, fed, restPrinted}
 use Rattle.reading.specs.Held.{next}
 
@@ -94,15 +95,6 @@ pub short-line : (bytes : List ℕ) → length bytes < 11 → lineOf (firstLine 
 short-line bytes h = line-short (firstLine bytes) (λ e. omega (arith, first-line-longest bytes))
 
 -- ---- a reading that has stopped
-
-pub stopped-line : (r : Reading) (line : List ℕ) → reads (r .phase) ≡ false → readLine r line ≡ goOn r
-unfolding readLine
-stopped-line r line h = rw h
-
-pub no-frame-line : (r : Reading) (line : List ℕ) → reads (r .phase) ≡ true → lineOf line ≡ NoFrame
-    → readLine r line ≡ refuse (counted r) (refusal.NoFrame (r .lines + 1))
-unfolding readLine
-no-frame-line r line h l = rw (h, l)
 
 -- a line that is no frame stops the reading
 pub no-frame-stops : (r : Reading) (line : List ℕ) → lineOf line ≡ NoFrame → reads (readLine r line .reading .phase) ≡ false

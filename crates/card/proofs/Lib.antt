@@ -1,6 +1,5 @@
 -- The laws on lines and files that the proofs of the functions share, and the theorems on course files.
 pub mod Files
-pub mod Turns
 pub mod Runs
 pub mod LineCases
 pub mod Reached

@@ -32,8 +32,8 @@ use Rattle.frames.specs.Printed.{pairLine, numberLine}
 use Rattle.reading.specs.declared.Phase.{Phase}
 use Rattle.reading.specs.declared.Phase.the-variants.{Head, Tracks, Needs, Asking, Stopped}
 use Rattle.reading.specs.Card.{Reading, listingOf, readIndex, goOn, refuse, misplaced, headFrame, trackFrame, needFrame, loaded, endFrame, answered, listPrinted, questionFrame, frameInPhase, counted, reads, readLine, unfinished}
-use Rattle.card.proofs.Files.{no-frame-line}
-use Rattle.card.proofs.Turns.{head-taken, head-not, track-taken, track-not, need-taken, end-taken, need-not, question-taken, late-line, frame-line}
+use Rattle.order.proofs.Turns.{no-frame-line}
+use Rattle.order.proofs.Turns.{head-taken, head-not, track-taken, track-not, need-taken, end-taken, need-not, question-taken, late-line, frame-line}
 
 -- ---- the cases, in 01's words
 

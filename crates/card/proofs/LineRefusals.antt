@@ -25,7 +25,7 @@ use Rattle.frames.proofs.Lengths.{length-built, length-refused}
 use Rattle.reading.specs.declared.Phase.{Phase}
 use Rattle.reading.specs.declared.Phase.the-variants.{Head, Tracks, Needs, Asking, Stopped}
 use Rattle.reading.specs.Card.{Reading, Next, listingOf, readIndex, refuse, loaded, answered, counted, reads, readLine, unfinished}
-use Rattle.card.proofs.Files.{stopped-line, no-frame-line}
+use Rattle.order.proofs.Turns.{stopped-line, no-frame-line}
 use Rattle.frames.proofs.RefusedLines.{refused-number-tells, refused-line-tells}
 use Rattle.card.proofs.LineCases.{EightDigits, out-of-place-line, past-limits-line, end-line, question-line, line-comes, taken-unfinished, unfinished-reads, FrameWith, endVerdict, answerTo, StopsWith, OutOfPlace, PastLimits, RightEnd, Question, Taken, Comes, head-off, need-8193, head, track, last-track, need, no-frame, out-of-place, past-limits, taken, ended, asked}
 use Rattle.card.proofs.Reached.{stands-in, reached-stands, stands-in-time, line-in-time, end-never, end-not-1, end-place, Stands, Reached, NeedsDue}

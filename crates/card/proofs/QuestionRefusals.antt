@@ -11,11 +11,14 @@ use native.Mathlib.Decide.{decLt, ℕ-discrete}
 use lib.ListN.{length, getD}
 use borrow.Author.Tests.{lt-ltb, le-ltb}
 use Rattle.rules.specs.declared.Refusal.{Refusal}
-use Rattle.rules.specs.declared.Refusal.the-variants.{BadArgument, NotWhole}
+use Rattle.rules.specs.declared.Refusal.the-variants.{BadArgument}
 use Rattle.rules.specs.declared.Refusal.the-variants as refusal
 use Rattle.rules.specs.declared.Verdict.{Verdict}
 use Rattle.rules.specs.declared.Verdict.the-variants.{Fine, Refused}
+use Rattle.rules.specs.declared.PairAnswer.the-variants as pair
+use Rattle.rules.specs.declared.NumberAnswer.the-variants as number
 use Rattle.rules.specs.Refusals.{numberOf, placeOf, _then_}
+use Rattle.rules.specs.Told.{toldPair, toldNumber}
 use Rattle.rules.specs.Index.{Index, builtIndex, builtHead}
 use Rattle.rules.specs.Questions.{kind10, kind11, kind12, kind13, kind14, kind15, kind16, kind17, kind18}
 use Rattle.rules.specs.Outcomes.{unitVerdict, trackVerdict, wholeVerdict, pairAnswer, numberAnswer, pairOutcome, unitOutcome, boundOutcome}
@@ -23,15 +26,16 @@ use Rattle.rules.proofs.Ranges.{not-both}
 use Rattle.rules.proofs.Accepted.{listing-fine}
 use Rattle.rules.proofs.Builts.{whole-built}
 use Rattle.rules.proofs.Wholes.{Whole}
-use Rattle.rules.proofs.Checks.{Off}
-use Rattle.rules.proofs.Cases.{FirstBad, pair-refused, number-refused}
-use Rattle.rules.proofs.Refusing.{pair-9, pair-8, pair-others, bound-9, bound-8, bound-others, unit-9, unit-8, unit-others}
+use Rattle.rules.proofs.Checks.{Off, within-fails, ltb-fails, then-never}
+use Rattle.rules.proofs.Cases.{FirstBad, argument-never, pair-refused, number-refused}
+use Rattle.rules.proofs.Tellings as tellings
+use Rattle.rules.proofs.Refusing.{whole-accepts, pair-8, bound-8, unit-8}
 use Rattle.frames.specs.declared.Frame.{Frame}
 use Rattle.frames.specs.Printed.{hexDigit, hexOf, pairLine, numberLine, listLine, refusedLine}
 use Rattle.frames.proofs.Lengths.{length-refused, length-number}
 use Rattle.reading.specs.declared.Phase.the-variants.{Asking}
 use Rattle.reading.specs.Card.{Reading, Next, listingOf, readIndex, answered, unitsPrinted, listPrinted, counted, reads, readLine, unfinished}
-use Rattle.frames.proofs.RefusedLines.{refusal-8, refusal-9, refused-number-tells, refused-line-tells}
+use Rattle.frames.proofs.RefusedLines.{refusal-8, refused-number-tells, refused-line-tells}
 use Rattle.card.proofs.LineCases.{EightDigits, FrameWith, Question, answerTo, StopsWith, Comes, no-frame, out-of-place, past-limits, taken, ended, asked, each-kind, line-comes, taken-unfinished}
 use Rattle.card.proofs.Reached.{Reached, QuestionsDue, stands-in, reached-stands}
 use Rattle.card.proofs.LineRefusals.{not-stopped, line-silent, question-goes-on}
@@ -132,50 +136,50 @@ module _ (x : Index) (is-whole : Whole x) (a b : ℕ) where
   abbrev askedBound : Verdict
   askedBound = wholeVerdict x then unitVerdict x 1 a then trackVerdict x 2 b
 
+  whole-fine : wholeVerdict x ≡ Fine
+  whole-fine = tellings.verdict-told (wholeVerdict x) Fine .0 (whole-accepts x .1 is-whole)
+
   pair-eight : Eight askedPair (FirstBad (Off n a) (Off n b))
   unfolding pairOutcome
-  pair-eight = record { eight = at; few = first-few; only = λ s z. go s z (ℕ-discrete (numberOf s) 8) (ℕ-discrete (numberOf s) 9) }
+  pair-eight = record { eight = at; few = first-few; only = λ s z. go s z (ℕ-discrete (numberOf s) 8) }
     where
       at : (w : ℕ) → (askedPair ≡ Refused (BadArgument w)) ↔ FirstBad (Off n a) (Off n b) w
       at w = (
-        (λ z. pair-8 x a b true w .0 (pair-refused askedPair true (BadArgument w) .1 z) .1),
-        (λ p. pair-refused askedPair true (BadArgument w) .0 (pair-8 x a b true w .1 (is-whole, p))),
+        (λ z. pair-8 x a b true w .0 (ap toldPair (pair-refused askedPair true (BadArgument w) .1 z)) .1),
+        (λ p. pair-refused askedPair true (BadArgument w) .0 (tellings.pair-told (pairAnswer askedPair true) (pair.Refused (BadArgument w)) .0 (pair-8 x a b true w .1 (is-whole, p)))),
       )
 
-      go : (s : Refusal) → askedPair ≡ Refused s → Dec (numberOf s ≡ 8) → Dec (numberOf s ≡ 9) → numberOf s ≡ 8
-      go s z (yes e) d = e
-      go s z (no e) (yes d) = absurd (pair-9 x a b true .0 (pair-refused askedPair true NotWhole .1 (z ∙ ap Refused (refusal-9 s d))) is-whole)
-      go s z (no e) (no d) = absurd (pair-others x a b true d e (pair-refused askedPair true s .1 z))
+      go : (s : Refusal) → askedPair ≡ Refused s → Dec (numberOf s ≡ 8) → numberOf s ≡ 8
+      go s z (yes e) = e
+      go s z (no e) = absurd (then-never (argument-never 1 (within-fails n a) e) (argument-never 2 (within-fails n b) e) (rw whole-fine at z))
 
   unit-eight : Eight askedUnit (λ w. (w ≡ 1) × Off n a)
   unfolding unitOutcome
-  unit-eight = record { eight = at; few = λ w p. omega (arith, p .0); only = λ s z. go s z (ℕ-discrete (numberOf s) 8) (ℕ-discrete (numberOf s) 9) }
+  unit-eight = record { eight = at; few = λ w p. omega (arith, p .0); only = λ s z. go s z (ℕ-discrete (numberOf s) 8) }
     where
       at : (w : ℕ) → (askedUnit ≡ Refused (BadArgument w)) ↔ ((w ≡ 1) × Off n a)
       at w = (
-        (λ z. let r = unit-8 x a 0 w .0 (number-refused askedUnit 0 (BadArgument w) .1 z) in (r .1, r .2)),
-        (λ p. number-refused askedUnit 0 (BadArgument w) .0 (unit-8 x a 0 w .1 (is-whole, p .0, p .1))),
+        (λ z. let r = unit-8 x a 0 w .0 (ap toldNumber (number-refused askedUnit 0 (BadArgument w) .1 z)) in (r .1, r .2)),
+        (λ p. number-refused askedUnit 0 (BadArgument w) .0 (tellings.number-told (numberAnswer askedUnit 0) (number.Refused (BadArgument w)) .0 (unit-8 x a 0 w .1 (is-whole, p .0, p .1)))),
       )
 
-      go : (s : Refusal) → askedUnit ≡ Refused s → Dec (numberOf s ≡ 8) → Dec (numberOf s ≡ 9) → numberOf s ≡ 8
-      go s z (yes e) d = e
-      go s z (no e) (yes d) = absurd (unit-9 x a 0 .0 (number-refused askedUnit 0 NotWhole .1 (z ∙ ap Refused (refusal-9 s d))) is-whole)
-      go s z (no e) (no d) = absurd (unit-others x a 0 d e (number-refused askedUnit 0 s .1 z))
+      go : (s : Refusal) → askedUnit ≡ Refused s → Dec (numberOf s ≡ 8) → numberOf s ≡ 8
+      go s z (yes e) = e
+      go s z (no e) = absurd (argument-never 1 (within-fails n a) e (rw whole-fine at z))
 
   bound-eight : Eight askedBound (FirstBad (Off n a) (k ≤ b))
   unfolding boundOutcome
-  bound-eight = record { eight = at; few = first-few; only = λ s z. go s z (ℕ-discrete (numberOf s) 8) (ℕ-discrete (numberOf s) 9) }
+  bound-eight = record { eight = at; few = first-few; only = λ s z. go s z (ℕ-discrete (numberOf s) 8) }
     where
       at : (w : ℕ) → (askedBound ≡ Refused (BadArgument w)) ↔ FirstBad (Off n a) (k ≤ b) w
       at w = (
-        (λ z. bound-8 x a b 0 w .0 (number-refused askedBound 0 (BadArgument w) .1 z) .1),
-        (λ p. number-refused askedBound 0 (BadArgument w) .0 (bound-8 x a b 0 w .1 (is-whole, p))),
+        (λ z. bound-8 x a b 0 w .0 (ap toldNumber (number-refused askedBound 0 (BadArgument w) .1 z)) .1),
+        (λ p. number-refused askedBound 0 (BadArgument w) .0 (tellings.number-told (numberAnswer askedBound 0) (number.Refused (BadArgument w)) .0 (bound-8 x a b 0 w .1 (is-whole, p)))),
       )
 
-      go : (s : Refusal) → askedBound ≡ Refused s → Dec (numberOf s ≡ 8) → Dec (numberOf s ≡ 9) → numberOf s ≡ 8
-      go s z (yes e) d = e
-      go s z (no e) (yes d) = absurd (bound-9 x a b 0 .0 (number-refused askedBound 0 NotWhole .1 (z ∙ ap Refused (refusal-9 s d))) is-whole)
-      go s z (no e) (no d) = absurd (bound-others x a b 0 d e (number-refused askedBound 0 s .1 z))
+      go : (s : Refusal) → askedBound ≡ Refused s → Dec (numberOf s ≡ 8) → numberOf s ≡ 8
+      go s z (yes e) = e
+      go s z (no e) = absurd (then-never (argument-never 1 (within-fails n a) e) (argument-never 2 (ltb-fails b k) e) (rw whole-fine at z))
 
   -- ---- every kind of question
 

@@ -12,7 +12,8 @@ use Rattle.rules.specs.declared.Refusal.the-variants as refusal
 use Rattle.rules.specs.declared.Verdict.{Verdict}
 use Rattle.rules.specs.declared.Verdict.the-variants.{Fine, Refused}
 use Rattle.rules.specs.Refusals.{numberOf, placeOf}
-use Rattle.rules.specs.Listing.{pairs, listingVerdict}
+use Rattle.rules.specs.Listing.{Listing, pairs, listingVerdict}
+use Rattle.rules.specs.Told.{toldVerdict}
 use Rattle.rules.specs.Order.{soundVerdict}
 use Rattle.rules.proofs.Ranges.{true-or-false, not-both}
 use Rattle.rules.proofs.Verdicts.{then-fine}
@@ -25,7 +26,7 @@ use Rattle.frames.specs.declared.Line.the-variants.{NoFrame}
 use Rattle.reading.specs.declared.Phase.{Phase}
 use Rattle.reading.specs.declared.Phase.the-variants.{Head, Tracks, Needs, Asking, Stopped}
 use Rattle.reading.specs.Card.{Reading, Next, listingOf, refuse, loaded, counted, reads, readLine, unfinished, start}
-use Rattle.card.proofs.Files.{stopped-line}
+use Rattle.order.proofs.Turns.{stopped-line}
 use Rattle.frames.proofs.RefusedLines.{refusal-1}
 use Rattle.card.proofs.LineCases.{EightDigits, line-comes, endVerdict, StopsWith, Taken, Comes, head, track, last-track, need, no-frame, out-of-place, past-limits, taken, ended, asked}
 
@@ -169,10 +170,14 @@ line-in-time r reached u = stands-in-time (r .phase) r u (reached-stands reached
 
 -- ---- refusals at 04
 
+-- a listing is refused by 1 to 5
+listing-few : (c : Listing) {s : Refusal} → listingVerdict c ≡ Refused s → numberOf s ≤ 5
+listing-few c q = rw q at (listing-others c)
+
 -- at 04 neither 6 nor any of 8 to 12 comes
 pub end-never : (r : Reading) (s : Refusal) → (numberOf s ≡ 6) ⊎ (7 < numberOf s) → endVerdict r ≡ Refused s → ⊥
-end-never r s (inl n) = then-never (listing-others (listingOf r) (omega arith)) (sound-never (listingOf r) (λ e. omega arith))
-end-never r s (inr n) = then-never (listing-others (listingOf r) (omega arith)) (sound-never (listingOf r) (λ e. omega arith))
+end-never r s (inl n) = then-never (λ q. omega (arith, listing-few (listingOf r) q)) (sound-never (listingOf r) (λ e. omega arith))
+end-never r s (inr n) = then-never (λ q. omega (arith, listing-few (listingOf r) q)) (sound-never (listingOf r) (λ e. omega arith))
 
 -- a listing read up to 04 is within the limits
 needs-inside : (r : Reading) → NeedsDue r → Outside (listingOf r) → ⊥
@@ -190,7 +195,7 @@ module _ (r : Reading) (d : NeedsDue r) where
   end-not-1 s n v = go (then-refused (listingVerdict (listingOf r)) (soundVerdict (listingOf r)) s .0 v)
     where
       go : (listingVerdict (listingOf r) ≡ Refused s) ⊎ ((listingVerdict (listingOf r) ≡ Fine) × (soundVerdict (listingOf r) ≡ Refused s)) → ⊥
-      go (inl q) = needs-inside r d (listing-1 (listingOf r) .0 (q ∙ ap Refused (refusal-1 s n)))
+      go (inl q) = needs-inside r d (listing-1 (listingOf r) .0 (ap toldVerdict (q ∙ ap Refused (refusal-1 s n))))
       go (inr q) = sound-never (listingOf r) (λ e. omega arith) (q .1)
 
   -- a refusal at 04 has a place of eight digits at most
@@ -200,16 +205,16 @@ module _ (r : Reading) (d : NeedsDue r) where
       go : (s : Refusal) → (listingVerdict (listingOf r) ≡ Refused s) ⊎ ((listingVerdict (listingOf r) ≡ Fine) × (soundVerdict (listingOf r) ≡ Refused s))
           → endVerdict r ≡ Refused s → EightDigits (placeOf s)
       go refusal.OutOfLimits q v = omega arith
-      go (refusal.NoSuchTrack u) (inl q) v = omega (arith, listing-2 (listingOf r) u .0 q .1 .holds, d .n-in)
+      go (refusal.NoSuchTrack u) (inl q) v = omega (arith, listing-2 (listingOf r) u .0 (ap toldVerdict q) .1 .holds, d .n-in)
       go (refusal.NoSuchTrack u) (inr q) v = absurd (sound-never (listingOf r) (λ e. omega arith) (q .1))
-      go (refusal.EmptyTrack t) (inl q) v = omega (arith, listing-3 (listingOf r) t .0 q .2 .holds, d .k-in)
+      go (refusal.EmptyTrack t) (inl q) v = omega (arith, listing-3 (listingOf r) t .0 (ap toldVerdict q) .2 .holds, d .k-in)
       go (refusal.EmptyTrack t) (inr q) v = absurd (sound-never (listingOf r) (λ e. omega arith) (q .1))
-      go (refusal.BadPair i) (inl q) v = omega (arith, listing-4 (listingOf r) i .0 q .3 .holds, d .needs-few)
+      go (refusal.BadPair i) (inl q) v = omega (arith, listing-4 (listingOf r) i .0 (ap toldVerdict q) .3 .holds, d .needs-few)
       go (refusal.BadPair i) (inr q) v = absurd (sound-never (listingOf r) (λ e. omega arith) (q .1))
-      go (refusal.PairOrder i) (inl q) v = omega (arith, listing-5 (listingOf r) i .0 q .4 .holds, d .needs-few)
+      go (refusal.PairOrder i) (inl q) v = omega (arith, listing-5 (listingOf r) i .0 (ap toldVerdict q) .4 .holds, d .needs-few)
       go (refusal.PairOrder i) (inr q) v = absurd (sound-never (listingOf r) (λ e. omega arith) (q .1))
       go refusal.ShortArea q v = omega arith
-      go (refusal.UnsoundTrack u) (inl q) v = absurd (listing-others (listingOf r) (omega arith) q)
+      go (refusal.UnsoundTrack u) (inl q) v = absurd (let l = listing-few (listingOf r) q in omega arith)
       go (refusal.UnsoundTrack u) (inr q) v =
           omega (arith, sound-at (listingOf r) (listing-fine (listingOf r) (q .0) .needs-pairs .goes-down) u .0 (q .1) .holds, d .n-in)
       go (refusal.BadArgument w) q v = absurd (end-never r (refusal.BadArgument w) (inr (omega arith)) v)

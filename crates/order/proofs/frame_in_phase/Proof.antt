@@ -1,4 +1,4 @@
--- `card::frame_in_phase`: in each phase the frame that may come there is taken, and any other is out of order.
+-- `order::frame_in_phase`: in each phase the frame that may come there is taken, and any other is out of order.
 -- Assumes nothing.
 use Prim.Native.Nat.{_≤_}
 use mathlib.Core.Path.{sym}
@@ -9,10 +9,10 @@ use Rattle.reading.specs.Card.{Reading}
 use Rattle.reading.specs.Held.{Areas, areas, readingOf}
 use Rattle.reading.proofs.Taking.{took-nothing}
 use Rattle.reading.proofs.Phases.{tracks-left, tracks-few, count-few, index-is, ready, staged}
-use Rattle.card.proofs.Turns.{head-taken, head-not, track-taken, track-not, need-taken, end-taken, need-not, question-taken, stopped-taken}
+use Rattle.order.proofs.Turns.{head-taken, head-not, track-taken, track-not, need-taken, end-taken, need-not, question-taken, stopped-taken}
 use borrow.Author.Needs.{needs}
-use Rattle.card.proofs.frame_in_phase.Statement.{statement}
-use Rattle.card.proofs.frame_in_phase.Tie as tie
+use Rattle.order.proofs.frame_in_phase.Statement.{statement}
+use Rattle.order.proofs.frame_in_phase.Tie as tie
 
 abbrev held : tie.Start → Areas
 held s = let a = s .args in areas (a .tracks .now) (a .needs .now) (a .words .now) (a .directory .now) (a .work .now) (a .list .now)

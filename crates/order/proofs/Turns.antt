@@ -2,16 +2,17 @@
 -- Assumes nothing.
 use Prim.Native.Nat.{ℕ, _+_, _≤_, _<_}
 use mathlib.Core.Path.{_≡_}
-use mathlib.Core.Bool.{true}
+use mathlib.Core.Bool.{true, false}
 use mathlib.Core.List.{List}
 use native.Mathlib.Omega.{arith}
 use borrow.Author.Tests.{eq-eqb, ne-eqb, lt-ltb, le-ltb}
+use Rattle.rules.specs.declared.Refusal.the-variants as refusal
 use Rattle.frames.specs.declared.Frame.{Frame}
-use Rattle.frames.specs.declared.Line.the-variants.{IsFrame}
+use Rattle.frames.specs.declared.Line.the-variants.{IsFrame, NoFrame}
 use Rattle.frames.specs.Lines.{lineOf}
 use Rattle.reading.specs.declared.Phase.{Phase}
 use Rattle.reading.specs.declared.Phase.the-variants.{Head, Tracks, Needs, Asking, Stopped}
-use Rattle.reading.specs.Card.{Reading, goOn, misplaced, headFrame, trackFrame, needFrame, endFrame, questionFrame, frameInPhase, counted, reads, readLine}
+use Rattle.reading.specs.Card.{Reading, goOn, refuse, misplaced, headFrame, trackFrame, needFrame, endFrame, questionFrame, frameInPhase, counted, reads, readLine}
 
 -- ---- the order of frames
 
@@ -62,3 +63,14 @@ module _ (r : Reading) (line : List ℕ) {f : Frame} (h : reads (r .phase) ≡ t
   pub frame-line : r .lines + 1 ≤ 65535 → readLine r line ≡ frameInPhase (r .phase) (counted r) f
   unfolding readLine
   frame-line l = rw (h, e, le-ltb 65535 (r .lines + 1) l)
+
+-- ---- a line that is none, and a reading that has stopped
+
+pub stopped-line : (r : Reading) (line : List ℕ) → reads (r .phase) ≡ false → readLine r line ≡ goOn r
+unfolding readLine
+stopped-line r line h = rw h
+
+pub no-frame-line : (r : Reading) (line : List ℕ) → reads (r .phase) ≡ true → lineOf line ≡ NoFrame
+    → readLine r line ≡ refuse (counted r) (refusal.NoFrame (r .lines + 1))
+unfolding readLine
+no-frame-line r line h l = rw (h, l)

@@ -1,4 +1,4 @@
--- `card::read`: a card that has stopped reads nothing; a line that is no frame, or comes too late, is refused; a frame goes to its phase.
+-- `order::read`: a card that has stopped reads nothing; a line that is no frame, or comes too late, is refused; a frame goes to its phase.
 -- Assumes nothing.
 use Prim.Native.Nat.{_+_, _≤_}
 use mathlib.Core.Path.{_≡_, sym, _∙_}
@@ -8,12 +8,12 @@ use borrow.Author.Tests.{not-true, not-false}
 use Rattle.reading.specs.Card.{Reading, reads}
 use Rattle.reading.specs.Held.{areas, readingOf}
 use Rattle.reading.proofs.Taking.{took-nothing}
-use Rattle.card.proofs.Files.{stopped-line, no-frame-line}
+use Rattle.order.proofs.Turns.{stopped-line, no-frame-line}
 use Rattle.reading.proofs.Phases.{next-room, next-fit}
-use Rattle.card.proofs.Turns.{late-line, frame-line}
+use Rattle.order.proofs.Turns.{late-line, frame-line}
 use borrow.Author.Needs.{needs}
-use Rattle.card.proofs.read.Statement.{statement}
-use Rattle.card.proofs.read.Tie as tie
+use Rattle.order.proofs.read.Statement.{statement}
+use Rattle.order.proofs.read.Tie as tie
 
 is-reading-requires : tie.Need-is-reading-requires
 is-reading-requires c κs = search needs

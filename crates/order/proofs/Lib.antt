@@ -1,0 +1,2 @@
+-- The laws on a line and the order of frames.
+pub mod Turns
