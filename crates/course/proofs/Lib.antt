@@ -1,2 +1,3 @@
 -- What the proofs of the functions share.
-pub mod Moves
+pub mod Blocks
+pub mod Standings

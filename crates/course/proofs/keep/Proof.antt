@@ -1,47 +1,73 @@
--- `course::keep`: every byte that is moved lies within the slice. Assumes nothing.
-use Prim.Native.Nat.{_+_, _-_, _≤_}
-use mathlib.Core.Path.{_≡_, _∙_}
+-- `course::keep`: the bytes moved so far stand at the front, and the others are as they were.
+-- Assumes nothing.
+use Prim.Native.Nat.{_+_, _-_, _≤_, _<_}
+use mathlib.Core.Path.{_≡_, refl, sym, _∙_}
 use native.Mathlib.Omega.{arith}
 use borrow.Author.Needs.{needs}
-use lib.ListN.{length, length-set}
+use lib.ListN.{length, take, drop}
+use denote.Ref.{now}
+use Rattle.rules.specs.Ranges.{over}
+use Rattle.rules.proofs.Ranges.{over-none}
+use Rattle.course.proofs.Blocks.{moved-next}
 use Rattle.course.proofs.keep.Statement.{statement}
 use Rattle.course.proofs.keep.Tie as tie
+use Rattle.course.proofs.keep.Reads as reads
+use Rattle.course.proofs.keep.Lts as lts
 
 abbrev Inv-loop : tie.InvT-loop
-Inv-loop bytes₀ from end i₀ bytes i = (length bytes ≡ length bytes₀) × (end ≤ length bytes₀) × (from + i ≤ end)
+Inv-loop bytes₀ from end i₀ bytes i = (bytes ≡ over bytes₀ (take i (drop from bytes₀))) × (length bytes ≡ length bytes₀) × (end ≤ length bytes₀) × (from + i ≤ end)
 
 abbrev μ-loop : tie.MeasureT-loop
 μ-loop bytes₀ from end i₀ bytes i = end - (from + i)
 
+-- src/main.rt:18:5
 loop-holds : tie.Need-loop-holds Inv-loop μ-loop
-loop-holds c = search needs
+loop-holds c = (sym (over-none _), refl, search needs, search needs)
 
+-- src/main.rt:18:11
 add-loop : tie.Need-add-loop Inv-loop μ-loop
 add-loop c = search needs
 
+-- src/main.rt:19:26
 add-bytes : tie.Need-add-bytes Inv-loop μ-loop
 add-bytes c = search needs
 
+-- src/main.rt:19:20
 slice-read-bytes : tie.Need-slice-read-bytes Inv-loop μ-loop
 slice-read-bytes c = search needs
 
+-- src/main.rt:19:9
 slice-write-bytes : tie.Need-slice-write-bytes Inv-loop μ-loop
 slice-write-bytes c = search needs
 
+-- src/main.rt:20:9
 add-i : tie.Need-add-i Inv-loop μ-loop
 add-i c = search needs
 
+-- src/main.rt:18:5
 loop-less : tie.Need-loop-less Inv-loop μ-loop
 loop-less c = search needs
 
+-- src/main.rt:18:5
 loop-again : tie.Need-loop-again Inv-loop μ-loop
-loop-again c = search needs
+loop-again c =
+    let l = c .before .before .loop in
+    let s = c .before .before .before in
+    let inside : s .args .from + l .i < length (now (s .args .bytes)) = omega arith in
+    let e = l .inv .0 in
+    (rw e (moved-next (now (s .args .bytes)) (s .args .from) (l .i) inside), search needs, search needs, search needs)
 
+-- src/main.rt:13:1
 same-length : tie.Need-same-length Inv-loop μ-loop
 same-length c = search needs
 
+-- src/main.rt:13:1
 returns : tie.Need-returns Inv-loop μ-loop
-returns c = search needs
+returns c =
+    let l = c .before .loop in
+    let s = c .before .before in
+    let all : l .i ≡ s .args .end - s .args .from = omega arith in
+    l .inv .0 ∙ rw all
 
 pub keep-spec : {M : Type 1} → statement M
 keep-spec =
