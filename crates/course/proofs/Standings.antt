@@ -22,7 +22,7 @@ use Rattle.feeding.specs.Feeding.{hasLineFeed, isLast, FeedOutcome, feedOutcome
 use Rattle.feeding.proofs.Lines.{fed-lines, feed-takes-line}
 use Rattle.course.specs.declared.Feeding.{Feeding}
 use Rattle.course.specs.declared.Waiting.{Waiting}
-use Rattle.course.specs.Waiting.{part, Came, Refilled, Standing, standing, readingIn, waitingIn, fedWith, FedOn, Turned}
+use Rattle.course.specs.Waiting.{part, Came, Refilled, Standing, standing, readingIn, waitingIn, fedWith, FedOn, Turned, fresh, Reached, here, turned}
 use Rattle.course.proofs.Blocks.{part-long, part-rest}
 
 -- ---- the bytes that the card takes
@@ -30,6 +30,10 @@ use Rattle.course.proofs.Blocks.{part-long, part-rest}
 pub pieces-in : (r : Reading) (bytes : List ℕ) (room : ℕ) → 11 * piecesRead r bytes room ≤ length bytes
 unfolding piecesRead
 pieces-in r bytes room = omega (arith, first-le (λ m. not (readsOn r bytes room m)) (length bytes / 11))
+
+pub used-in : (r : Reading) (bytes : List ℕ) (from room : ℕ) {end used : ℕ} → end ≤ length bytes → used ≡ 11 * piecesRead r (part bytes from end) room
+    → used ≤ end - from
+used-in r bytes from room {end} in-block e = omega (arith, pieces-in r (part bytes from end) room, part-long bytes from end in-block)
 
 -- what is printed lies in the output area
 pub printed-in : (out xs : List ℕ) {out′ : List ℕ} → out′ ≡ over out xs → length out′ ≡ length out → length xs ≤ length out
@@ -47,12 +51,6 @@ module _ (feeding : Feeding) (a : Areas) {bytes bytes′ out out′ : List ℕ} 
     (took : FedTo (readingOf (feeding .card) a) (part bytes′ (waiting .from) (waiting .end)) (waiting .ended) out given a′ out′) where
   abbrev waits : List ℕ
   waits = part bytes′ (waiting .from) (waiting .end)
-
-  long : length waits ≡ waiting .end - waiting .from
-  long = part-long bytes′ (waiting .from) (waiting .end) (filled .end-in)
-
-  used-in : given .used ≤ waiting .end - waiting .from
-  used-in = omega (arith, took .used-is, pieces-in (readingOf (feeding .card) a) waits (length out - 20), long)
 
   abbrev outcome : List ℕ → FeedOutcome
   outcome bytes = feedOutcome (readingOf (feeding .card) a) bytes (waiting .ended) (length out)
@@ -77,7 +75,7 @@ module _ (feeding : Feeding) (a : Areas) {bytes bytes′ out out′ : List ℕ} 
           more-is = rw (sym (filled .waits), not-not written) (is ∙ ap (λ (b : Bool). b && written) (took .more-is));
         });
         fit = took .fit;
-        start-in = omega (arith, used-in, filled .start-in);
+        start-in = omega (arith, used-in _ bytes′ (waiting .from) _ (filled .end-in) (took .used-is), filled .start-in);
         end-in = filled .end-in;
       }
 
@@ -161,12 +159,55 @@ module _ {s s′ : Standing} (turn : Turned s s′) (on : reads (s .feeding .car
       go (inl f) = (moved f, ap (λ (r : Reading). reads (r .phase)) (reading-is f) ∙ wants f .1)
       go (inr f) = absurd (not-both more (f .1))
 
--- ---- the first turn
+-- ---- turn after turn
 
--- a card before its first line is fit over areas with room
-pub fresh-fit : (a : Areas) → Room a → (card : Card) → card ≡ freshCard → Fit card a
-fresh-fit a room card e = rw e (record {
-  room = record { lines-few = zero-le; pairs-few = zero-le; units-few = zero-le; areas-room = room };
-  lines-left = λ h. zero-le;
-  settled = (refl, refl);
-})
+-- what stands after some turns: the card reads where more is to be read
+pub record Serving (s₀ s : Standing) : Type 0 where
+  pub reached : Reached s₀ s
+  pub fit : Fit (s .feeding .card) (s .areas)
+  pub start-in : s .feeding .from ≤ s .feeding .end
+  pub end-in : s .feeding .end ≤ length (s .bytes)
+  pub on : s .feeding .more ≡ true → reads (s .feeding .card .phase) ≡ true
+
+-- how much further a card can come: 65,536 lines, and as many bytes as the block has
+abbrev pub toGo : Standing → ℕ
+toGo s = cond (s .feeding .more) (suc (12 * 65536 + length (s .bytes) - reach s)) 0
+
+module _ {s₀ s s′ : Standing} (serving : Serving s₀ s) (more : s .feeding .more ≡ true) (turn : Turned s s′) (room : 5145 ≤ length (s .out)) where
+  moves : s′ .feeding .more ≡ true → (reach s < reach s′) × (reads (s′ .feeding .card .phase) ≡ true)
+  moves = turn-moves turn (serving .on more) (serving .start-in) (serving .end-in) room
+
+  pub serving-next : Serving s₀ s′
+  serving-next =
+      record {
+        reached = turned (serving .reached) more turn;
+        fit = turn .fit;
+        start-in = turn .start-in;
+        end-in = turn .end-in;
+        on = λ h. moves h .1;
+      }
+
+  pub nearer : length (s′ .bytes) ≡ length (s .bytes) → toGo s′ < toGo s
+  nearer long = go (true-or-false (s′ .feeding .more))
+    where
+      go : (s′ .feeding .more ≡ true) ⊎ (s′ .feeding .more ≡ false) → toGo s′ < toGo s
+      go (inr f) = rw (f, more) (omega arith)
+      go (inl t) =
+          let m = moves t in
+          rw (t, more) (omega (arith, long, m .0, turn .fit .lines-left (m .1), turn .end-in))
+
+-- ---- before the first turn
+
+pub serving-fresh : {bytes out : List ℕ} {a : Areas} → Room a → Serving (standing fresh bytes a out) (standing fresh bytes a out)
+serving-fresh room =
+    record {
+      reached = here;
+      fit = record {
+        room = record { lines-few = zero-le; pairs-few = zero-le; units-few = zero-le; areas-room = room };
+        lines-left = λ h. zero-le;
+        settled = (refl, refl);
+      };
+      start-in = zero-le;
+      end-in = zero-le;
+      on = λ h. refl;
+    }
