@@ -60,10 +60,10 @@ module _ (feeding : Feeding) (a : Areas) {bytes bytes′ out out′ : List ℕ} 
   rest-left =
       sym (part-rest bytes′ (waiting .from) (waiting .end) (given .used)) ∙ ap (λ (n : ℕ). drop n waits) (took .used-is)
 
-  pub turned-fed : waiting .well ≡ true → (written more : Bool) → more ≡ (given .more && written)
+  pub turned-fed : length out′ ≡ length out → waiting .well ≡ true → (written more : Bool) → more ≡ (given .more && written)
       → Turned (standing feeding bytes a out)
       (standing (record { card = given .card; from = waiting .from + given .used; end = waiting .end; more = more; failed = not written }) bytes′ a′ out′)
-  turned-fed well written more is =
+  turned-fed out-long well written more is =
       record {
         fed = inl (record {
           came = filled .came;
@@ -77,6 +77,7 @@ module _ (feeding : Feeding) (a : Areas) {bytes bytes′ out out′ : List ℕ} 
         fit = took .fit;
         start-in = omega (arith, used-in _ bytes′ (waiting .from) _ (filled .end-in) (took .used-is), filled .start-in);
         end-in = filled .end-in;
+        out-long = out-long;
       }
 
 -- ---- turns come to an end
@@ -90,8 +91,7 @@ last-short rest ended few e = rw (lt-ltb (length rest) 11 few, e)
 abbrev pub reach : Standing → ℕ
 reach s = 12 * s .feeding .card .lines + (s .feeding .end - s .feeding .from)
 
-module _ {s s′ : Standing} (turn : Turned s s′) (on : reads (s .feeding .card .phase) ≡ true) (start-in : s .feeding .from ≤ s .feeding .end)
-    (end-in : s .feeding .end ≤ length (s .bytes)) (room : 5145 ≤ length (s .out)) (more : s′ .feeding .more ≡ true) where
+module _ {s s′ : Standing} (turn : Turned s s′) (end-in : s .feeding .end ≤ length (s .bytes)) (more : s′ .feeding .more ≡ true) where
   module _ (f : FedOn s s′) where
     abbrev before : List ℕ
     before = waitingIn s ++ f .came
@@ -131,7 +131,7 @@ module _ {s s′ : Standing} (turn : Turned s s′) (on : reads (s .feeding .car
         (sym (ap length rest-is) ∙ new, omega (arith, pieces-in (readingIn s) before (length (s .out) - 20)))
 
     -- the file has not ended: fewer than eleven bytes would be its last
-    goes-on : f .ended ≡ false
+    pub goes-on : f .ended ≡ false
     goes-on = go (true-or-false (f .ended))
       where
         go : (f .ended ≡ true) ⊎ (f .ended ≡ false) → f .ended ≡ false
@@ -141,8 +141,8 @@ module _ {s s′ : Standing} (turn : Turned s s′) (on : reads (s .feeding .car
             let few : length rest < 11 = omega (arith, rest-long, ap length (c .1)) in
             absurd (not-both (last-short rest (f .ended) few e) (not-true (isLast rest (f .ended)) (wants .0)))
 
-    moved : reach s < reach s′
-    moved = go (f .came-so .brought goes-on)
+    moved : reads (s .feeding .card .phase) ≡ true → 5145 ≤ length (s .out) → reach s < reach s′
+    moved on room = go (f .came-so .brought goes-on)
       where
         go : ((11 ≤ s .feeding .end - s .feeding .from) × (f .came ≡ [])) ⊎ (1 ≤ length (f .came)) → reach s < reach s′
         go (inr c) = omega (arith, lines-are, rest-long)
@@ -152,11 +152,11 @@ module _ {s s′ : Standing} (turn : Turned s s′) (on : reads (s .feeding .car
             omega (arith, lines-are, rest-long, one)
 
   -- so a card that reads on is further
-  pub turn-moves : (reach s < reach s′) × (reads (s′ .feeding .card .phase) ≡ true)
-  turn-moves = go (turn .fed)
+  pub turn-moves : reads (s .feeding .card .phase) ≡ true → 5145 ≤ length (s .out) → (reach s < reach s′) × (reads (s′ .feeding .card .phase) ≡ true)
+  turn-moves on room = go (turn .fed)
     where
       go : FedOn s s′ ⊎ ((s′ .feeding .failed ≡ true) × (s′ .feeding .more ≡ false)) → (reach s < reach s′) × (reads (s′ .feeding .card .phase) ≡ true)
-      go (inl f) = (moved f, ap (λ (r : Reading). reads (r .phase)) (reading-is f) ∙ wants f .1)
+      go (inl f) = (moved f on room, ap (λ (r : Reading). reads (r .phase)) (reading-is f) ∙ wants f .1)
       go (inr f) = absurd (not-both more (f .1))
 
 -- ---- turn after turn
@@ -175,7 +175,7 @@ toGo s = cond (s .feeding .more) (suc (12 * 65536 + length (s .bytes) - reach s)
 
 module _ {s₀ s s′ : Standing} (serving : Serving s₀ s) (more : s .feeding .more ≡ true) (turn : Turned s s′) (room : 5145 ≤ length (s .out)) where
   moves : s′ .feeding .more ≡ true → (reach s < reach s′) × (reads (s′ .feeding .card .phase) ≡ true)
-  moves = turn-moves turn (serving .on more) (serving .start-in) (serving .end-in) room
+  moves h = turn-moves turn (serving .end-in) h (serving .on more) room
 
   pub serving-next : Serving s₀ s′
   serving-next =

@@ -3,7 +3,7 @@ use Prim.Native.Nat.{ℕ, _+_, _-_, _≤_, _<_, min}
 use mathlib.Core.Path.{_≡_}
 use mathlib.Core.Bool.{Bool, true, false, not, _&&_}
 use mathlib.Core.List.{List, [], _++_}
-use mathlib.Core.Logic.{_⊎_}
+use mathlib.Core.Logic.{_⊎_, ⊎-elim}
 use lib.IntN.{ℤ, pos, negsuc}
 use lib.ListN.{length, take, drop}
 use Rattle.rules.specs.Ranges.{over}
@@ -77,6 +77,7 @@ pub record Turned (s s′ : Standing) : Type 0 where
   pub fit : Fit (s′ .feeding .card) (s′ .areas)
   pub start-in : s′ .feeding .from ≤ s′ .feeding .end
   pub end-in : s′ .feeding .end ≤ length (s′ .bytes)
+  pub out-long : length (s′ .out) ≡ length (s .out)
 
 -- ---- turn after turn
 
@@ -88,3 +89,19 @@ fresh = record { card = freshCard; from = 0; end = 0; more = true; failed = fals
 pub data Reached (s : Standing) : Standing → Type 0 where
   here : Reached s s
   turned : {t u : Standing} → Reached s t → t .feeding .more ≡ true → Turned t u → Reached s u
+
+-- what came in a turn, and what was printed
+abbrev pub cameBy : {s s′ : Standing} → Turned s s′ → List ℕ
+cameBy turn = ⊎-elim (λ fed. fed .came) (λ failed. []) (turn .fed)
+
+abbrev pub printedBy : {s s′ : Standing} → Turned s s′ → List ℕ
+printedBy {s} turn = ⊎-elim (λ fed. fedWith s (fed .came) (fed .ended) .printed) (λ failed. []) (turn .fed)
+
+-- and in all of them
+unfoldable pub cameIn : {s t : Standing} → Reached s t → List ℕ
+cameIn here = []
+cameIn (turned before more turn) = cameIn before ++ cameBy turn
+
+unfoldable pub printedIn : {s t : Standing} → Reached s t → List ℕ
+printedIn here = []
+printedIn (turned before more turn) = printedIn before ++ printedBy turn

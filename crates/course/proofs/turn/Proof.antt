@@ -17,10 +17,18 @@ refill-requires c κs = search needs
 same-length : tie.Need-same-length
 same-length c = search needs
 
+-- what the refill left, and the call's start, as they stand once the card was fed
+abbrev refilled : tie.After-feed → tie.After-refill
+refilled c = c .before .before .before .before .before .before .before .before .before .before .before .before .before .before
+
+abbrev start : tie.After-feed → tie.Start
+start c = refilled c .before .before .before .before .before .before .before .before .before .before
+
 returns : tie.Need-returns
 returns c =
-    let filled = c .before .before .before .before .refill .ensures in
-    record { fed = inr (refl, refl); fit = c .before .before .before .before .before .before .before .before .before .before .before .before .before .before .pre .0; start-in = filled .start-in; end-in = filled .end-in }
+    let r = c .before .before .before .before in
+    let filled = r .refill .ensures in
+    record { fed = inr (refl, refl); fit = r .before .before .before .before .before .before .before .before .before .before .pre .0; start-in = filled .start-in; end-in = filled .end-in; out-long = refl }
 
 sub-feed : tie.Need-sub-feed
 sub-feed c = search needs
@@ -42,13 +50,21 @@ print-requires c κs =
 
 add-t53 : tie.Need-add-t53
 add-t53 c =
-    let s = c .before .before .before .before .before .before .before .before .before .before .before .before .before .before .before .before .before .before .before .before .before .before .before .before .before .before .before .before .before .before .before .before .before .before .before .before .before .before .before .before .before in
-    let filled = c .before .before .before .before .before .before .before .before .before .before .before .before .before .before .before .before .before .before .before .before .before .before .before .before .before .before .before .before .before .before .before .refill .ensures in
-    let took = c .before .before .before .before .before .before .before .before .before .before .before .before .before .before .before .before .before .feed .ensures in
-    record { fits = omega (arith, used-in _ _ _ _ (filled .end-in) (took .used-is), filled .start-in, filled .end-in, c .before .before .before .before .before .before .before .before .before .before .before .before .before .before .before .before .before .before .before .before .before .before .before .before .before .before .before .before .before .before .before .refill .kept .0, s .good .1 .0 .0) }
+    let f = c .before .before .before .before .before .before .before .before .before .before .before .before .before .before .before .before .before in
+    let filled = refilled f .refill .ensures in
+    record {
+      fits = omega (
+        arith,
+        used-in _ _ _ _ (filled .end-in) (f .feed .ensures .used-is),
+        filled .start-in,
+        filled .end-in,
+        refilled f .refill .kept .0,
+        start f .good .1 .0 .0,
+      );
+    }
 
 same-length-2 : tie.Need-same-length-2
-same-length-2 c = c .before .before .before .before .before .before .before .before .before .before .before .before .before .before .before .before .before .before .before .before .before .before .before .before .before .before .before .before .before .before .before .before .refill .kept .0
+same-length-2 c = refilled (c .before .before .before .before .before .before .before .before .before .before .before .before .before .before .before .before .before .before) .refill .kept .0
 
 same-length-3 : tie.Need-same-length-3
 same-length-3 c = search needs
@@ -73,10 +89,10 @@ same-length-9 c = search needs
 
 returns-2 : tie.Need-returns-2
 returns-2 c =
-    let s = c .before .before .before .before .before .before .before .before .before .before .before .before .before .before .before .before .before .before .before .before .before .before .before .before .before .before .before .before .before .before .before .before .before .before .before .before .before .before .before .before .before .before in
-    let filled = c .before .before .before .before .before .before .before .before .before .before .before .before .before .before .before .before .before .before .before .before .before .before .before .before .before .before .before .before .before .before .before .before .refill .ensures in
-    let took = c .before .before .before .before .before .before .before .before .before .before .before .before .before .before .before .before .before .before .feed .ensures in
-    turned-fed (s .args .feeding) _ filled took (not-false _ (c .before .before .before .before .before .before .before .before .before .before .before .before .before .before .before .before .before .before .before .before .before .before .before .before .before .before .before .before .if1 .left)) (c .before .before .print .result) (c .if2 .t56) (⊎-elim (λ w. w .1 ∙ rw (w .0 .taken)) (λ w. w .1 ∙ rw (w .0 .left)) (c .if2 .came))
+    let f = c .before .before .before .before .before .before .before .before .before .before .before .before .before .before .before .before .before .before in
+    let well = not-false _ (f .before .before .before .before .before .before .before .before .before .before .if1 .left) in
+    turned-fed (start f .args .feeding) _ (refilled f .refill .ensures) (f .feed .ensures) (f .feed .kept .1 .1 .1 .1 .1 .1 .1 .1 .1 .0) well (c .before .before .print .result) (c .if2 .t56)
+    (⊎-elim (λ w. w .1 ∙ rw (w .0 .taken)) (λ w. w .1 ∙ rw (w .0 .left)) (c .if2 .came))
 
 pub turn-spec : {M : Type 1} → statement M
 turn-spec =
