@@ -10,7 +10,7 @@ use native.Mathlib.Omega.{arith}
 use lib.Dec.{eqb}
 use lib.Signed.{leZ}
 use lib.IntN.{ℤ, pos, negsuc}
-use lib.ListN.{length, getD, take, drop, set, length-take, length-drop}
+use lib.ListN.{length, getD, take, drop, set, length-drop}
 use lib.Seq.{length-take-le, take-suc, getD-drop, take-nil, take-at, take-add, drop-drop}
 use borrow.Author.Tests.{eqb-true, eqb-false, le-leb}
 use Rattle.io.specs.Counts.{clamped}
@@ -79,6 +79,7 @@ module _ (bytes bytes′ : List ℕ) (from end end′ : ℕ) (start-in : from �
         start-in = start-in;
         end-in = end-in;
         waits = sym (append-nil (part bytes from end));
+        failed-so = λ h. absurd (let z : _≡_ {A = ℕ} 0 1 = cc in omega arith);
         came-so = λ w. record { ended-is = λ h. absurd (let z : _≡_ {A = ℕ} 0 1 = cc in omega arith); brought = λ h. inl (line, refl) };
       }
 
@@ -105,6 +106,7 @@ module _ (bytes bytes′ : List ℕ) (from end end′ : ℕ) (start-in : from �
           start-in = omega arith;
           end-in = end-in′;
           waits = front-waits;
+          failed-so = λ h. few;
           came-so = λ w. record {
             ended-is = λ h. (few, none (eqb-true end′ (end - from) h));
             brought = λ h. inr (omega (arith, long, eqb-false end′ (end - from) h));

@@ -10,15 +10,12 @@ use Rattle.rules.proofs.Ranges.{not-both}
 use Rattle.rules.proofs.Verdicts.{and-both}
 use Rattle.reading.specs.Card.{Reading, start}
 use Rattle.reading.specs.Held.{Areas}
-use Rattle.feeding.specs.Feeding.{feedOutcome, Turns, last, more as one-more}
-use Rattle.course.specs.Waiting.{Standing, standing, readingIn, waitingIn, fedWith, FedOn, Turned, fresh, Reached, here, turned, cameBy, printedBy, cameIn, printedIn}
+use Rattle.feeding.specs.Feeding.{Turns, last, more as one-more}
+use Rattle.course.specs.Waiting.{Standing, standing, readingIn, waitingIn, fedWith, FedOn, ReadFailed, Turned, fresh, Reached, here, turned, cameBy, printedBy, cameIn, printedIn}
 use Rattle.course.proofs.Standings.{goes-on}
 
 abbrev Left : ℕ → Standing → List ℕ → List ℕ → Type 0
 Left room s = Turns room (readingIn s) (waitingIn s)
-
-abbrev Failed : Standing → Type 0
-Failed s = (s .feeding .failed ≡ true) × (s .feeding .more ≡ false)
 
 and-yes : (b : Bool) → (b && true) ≡ b
 and-yes true = refl
@@ -53,10 +50,10 @@ module _ {s s′ : Standing} (turn : Turned s s′) where
     turn-more : Left (length (s .out)) s (cameBy turn ++ file) (printedBy turn ++ printed)
     turn-more = go (turn .fed)
       where
-        go : (fed : FedOn s s′ ⊎ Failed s′)
+        go : (fed : FedOn s s′ ⊎ ReadFailed s s′)
             → Left (length (s .out)) s (⊎-elim (λ f. f .came) (λ failed. []) fed ++ file) (⊎-elim (λ f. fedWith s (f .came) (f .ended) .printed) (λ failed. []) fed ++ printed)
         go (inl f) = fed-more f
-        go (inr failed) = absurd (not-both on (failed .1))
+        go (inr failed) = absurd (not-both on (failed .ends))
 
   -- a turn after which nothing more is read
   module _ (off : s′ .feeding .more ≡ false) (fine : s′ .feeding .failed ≡ false) where
@@ -68,10 +65,10 @@ module _ {s s′ : Standing} (turn : Turned s s′) where
     turn-last : Left (length (s .out)) s (cameBy turn ++ []) (printedBy turn)
     turn-last = go (turn .fed)
       where
-        go : (fed : FedOn s s′ ⊎ Failed s′)
+        go : (fed : FedOn s s′ ⊎ ReadFailed s s′)
             → Left (length (s .out)) s (⊎-elim (λ f. f .came) (λ failed. []) fed ++ []) (⊎-elim (λ f. fedWith s (f .came) (f .ended) .printed) (λ failed. []) fed)
         go (inl f) = fed-last f
-        go (inr failed) = absurd (not-both (failed .0) fine)
+        go (inr failed) = absurd (not-both (failed .fails) fine)
 
 -- turns after which more is read, and then the rest
 turns-more : {s t : Standing} (path : Reached s t) → s .feeding .end ≤ length (s .bytes) → t .feeding .more ≡ true → {file printed : List ℕ}

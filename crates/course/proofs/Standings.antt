@@ -1,28 +1,26 @@
 -- What a turn leaves: what was read and fed is the outcome of feeding, and a turn after which more is read has read a byte or taken a line.
 -- So turns come to an end.
 -- Assumes nothing.
-use Prim.Native.Nat.{ℕ, zero, suc, _+_, _-_, _*_, _/_, _≤_, _<_, zero-le}
+use Prim.Native.Nat.{ℕ, suc, _+_, _-_, _*_, _/_, _≤_, _<_, zero-le}
 use mathlib.Core.Path.{_≡_, refl, sym, ap, _∙_}
 use mathlib.Core.Bool.{Bool, true, false, cond, not, _&&_}
-use mathlib.Core.List.{List, [], _∷_, _++_, append-nil}
+use mathlib.Core.List.{List, [], _++_}
 use mathlib.Core.Logic.{_⊎_, inl, inr}
 use native.Mathlib.Omega.{arith}
-use lib.Dec.{ltb}
-use lib.ListN.{length, take, drop, length-append, length-drop}
+use lib.ListN.{length, drop, length-append, length-drop}
 use borrow.Author.Tests.{lt-ltb, not-true}
 use Rattle.rules.specs.Ranges.{over}
 use Rattle.rules.proofs.Ranges.{true-or-false, not-both, first-le}
 use Rattle.rules.proofs.Verdicts.{and-both}
-use Rattle.reading.specs.declared.Card.{Card}
 use Rattle.reading.specs.Card.{Reading, reads}
-use Rattle.reading.specs.Held.{Areas, readingOf, freshCard, Room, Fit}
+use Rattle.reading.specs.Held.{Areas, readingOf, Room, Fit}
 use Rattle.card.specs.Files.{fed, readsOn, piecesRead}
 use Rattle.feeding.specs.declared.Fed.{Fed}
-use Rattle.feeding.specs.Feeding.{hasLineFeed, isLast, FeedOutcome, feedOutcome, FedTo}
+use Rattle.feeding.specs.Feeding.{isLast, FeedOutcome, feedOutcome, FedTo}
 use Rattle.feeding.proofs.Lines.{fed-lines, feed-takes-line}
 use Rattle.course.specs.declared.Feeding.{Feeding}
 use Rattle.course.specs.declared.Waiting.{Waiting}
-use Rattle.course.specs.Waiting.{part, Came, Refilled, Standing, standing, readingIn, waitingIn, fedWith, FedOn, Turned, fresh, Reached, here, turned}
+use Rattle.course.specs.Waiting.{part, Refilled, Standing, standing, readingIn, waitingIn, fedWith, FedOn, ReadFailed, Turned, fresh, Reached, here, turned}
 use Rattle.course.proofs.Blocks.{part-long, part-rest}
 
 -- ---- the bytes that the card takes
@@ -155,9 +153,9 @@ module _ {s s′ : Standing} (turn : Turned s s′) (end-in : s .feeding .end �
   pub turn-moves : reads (s .feeding .card .phase) ≡ true → 5145 ≤ length (s .out) → (reach s < reach s′) × (reads (s′ .feeding .card .phase) ≡ true)
   turn-moves on room = go (turn .fed)
     where
-      go : FedOn s s′ ⊎ ((s′ .feeding .failed ≡ true) × (s′ .feeding .more ≡ false)) → (reach s < reach s′) × (reads (s′ .feeding .card .phase) ≡ true)
+      go : FedOn s s′ ⊎ ReadFailed s s′ → (reach s < reach s′) × (reads (s′ .feeding .card .phase) ≡ true)
       go (inl f) = (moved f on room, ap (λ (r : Reading). reads (r .phase)) (reading-is f) ∙ wants f .1)
-      go (inr f) = absurd (not-both more (f .1))
+      go (inr f) = absurd (not-both more (f .ends))
 
 -- ---- turn after turn
 

@@ -30,10 +30,11 @@ pub record Came (waiting : ℕ) (came : List ℕ) (ended : Bool) : Type 0 where
   pub ended-is : ended ≡ true → (waiting < 11) × (came ≡ [])
   pub brought : ended ≡ false → ((11 ≤ waiting) × (came ≡ [])) ⊎ (1 ≤ length came)
 
--- some bytes came behind those that wait
+-- some bytes came behind those that wait; nothing is read, and so no read fails, where a whole line waits
 pub record Refilled (bytes : List ℕ) (from end : ℕ) (waiting : Waiting) (bytes′ : List ℕ) : Type 0 where
   pub came : List ℕ
   pub came-so : waiting .well ≡ true → Came (end - from) came (waiting .ended)
+  pub failed-so : waiting .well ≡ false → end - from < 11
   pub waits : part bytes′ (waiting .from) (waiting .end) ≡ part bytes from end ++ came
   pub start-in : waiting .from ≤ waiting .end
   pub end-in : waiting .end ≤ length bytes′
@@ -71,9 +72,17 @@ pub record FedOn (s s′ : Standing) : Type 0 where
   pub out-is : s′ .out ≡ over (s .out) (fedWith s came ended .printed)
   pub more-is : s′ .feeding .more ≡ (fedWith s came ended .more && not (s′ .feeding .failed))
 
--- a turn: the card was fed, or the read failed and nothing more is read. The card is fit, and what waits lies in the block
+-- no whole line waited, and the read failed: nothing is fed or printed, and nothing more is read
+pub record ReadFailed (s s′ : Standing) : Type 0 where
+  pub few : s .feeding .end - s .feeding .from < 11
+  pub reading-is : readingIn s′ ≡ readingIn s
+  pub out-is : s′ .out ≡ s .out
+  pub fails : s′ .feeding .failed ≡ true
+  pub ends : s′ .feeding .more ≡ false
+
+-- a turn: the card was fed, or the read failed. The card is fit, and what waits lies in the block
 pub record Turned (s s′ : Standing) : Type 0 where
-  pub fed : FedOn s s′ ⊎ ((s′ .feeding .failed ≡ true) × (s′ .feeding .more ≡ false))
+  pub fed : FedOn s s′ ⊎ ReadFailed s s′
   pub fit : Fit (s′ .feeding .card) (s′ .areas)
   pub start-in : s′ .feeding .from ≤ s′ .feeding .end
   pub end-in : s′ .feeding .end ≤ length (s′ .bytes)

@@ -1,6 +1,5 @@
 -- `course::after_read`: `io::count` counts no byte where the answer is below 0.
 -- Assumes nothing.
-use mathlib.Core.Path.{sym}
 use denote.Ref.{now}
 use mir.Facts.{toZ-ofZ}
 use native.Mathlib.Omega.{arith}
@@ -9,31 +8,22 @@ use Rattle.course.proofs.Blocks.{part-long, read-by}
 use borrow.Author.Needs.{needs}
 use Rattle.course.proofs.after_read.Statement.{statement}
 use Rattle.course.proofs.after_read.Tie as tie
-use Rattle.course.proofs.after_read.Reads as reads
-use Rattle.course.proofs.after_read.Lts as lts
-use Rattle.io.proofs.count.Reads as count-reads
 
--- src/main.rt:37:36
 sub-count : tie.Need-sub-count
 sub-count c = search needs
 
--- src/main.rt:37:36
 part-count-start : tie.Need-part-count-start
 part-count-start c = search needs
 
--- src/main.rt:37:36
 part-count-end : tie.Need-part-count-end
 part-count-end c = search needs
 
--- src/main.rt:37:21
 count-requires : tie.Need-count-requires
 count-requires c κs = search needs
 
--- src/main.rt:37:14
 add-t10 : tie.Need-add-t10
 add-t10 c = search needs
 
--- src/main.rt:31:1
 returns : tie.Need-returns
 returns c =
     let s = c .before .before .before in

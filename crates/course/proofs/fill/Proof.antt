@@ -7,36 +7,25 @@ use Rattle.course.proofs.Blocks.{filled-past, filled-in}
 use borrow.Author.Needs.{needs}
 use Rattle.course.proofs.fill.Statement.{statement}
 use Rattle.course.proofs.fill.Tie as tie
-use Rattle.course.proofs.fill.Reads as reads
-use Rattle.course.proofs.fill.Lts as lts
-use Rattle.course.proofs.after_read.Reads as after-read-reads
-use Rattle.libc.proofs.read.Reads as read-reads
 
--- src/main.rt:46:40
 sub-read : tie.Need-sub-read
 sub-read c = search needs
 
--- src/main.rt:46:40
 part-read-start : tie.Need-part-read-start
 part-read-start c = search needs
 
--- src/main.rt:46:40
 part-read-end : tie.Need-part-read-end
 part-read-end c = search needs
 
--- src/main.rt:46:9
 read-requires : tie.Need-read-requires
 read-requires c κs = search needs
 
--- src/main.rt:47:5
 after-read-requires : tie.Need-after-read-requires
 after-read-requires c κs = search needs
 
--- src/main.rt:42:1
 same-length : tie.Need-same-length
 same-length c = search needs
 
--- src/main.rt:42:1
 returns : tie.Need-returns
 returns c =
     let s = c .before .before .before .before .before .before .before in

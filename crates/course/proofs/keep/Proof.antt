@@ -11,8 +11,6 @@ use Rattle.rules.proofs.Ranges.{over-none}
 use Rattle.course.proofs.Blocks.{moved-next}
 use Rattle.course.proofs.keep.Statement.{statement}
 use Rattle.course.proofs.keep.Tie as tie
-use Rattle.course.proofs.keep.Reads as reads
-use Rattle.course.proofs.keep.Lts as lts
 
 abbrev Inv-loop : tie.InvT-loop
 Inv-loop bytes₀ from end i₀ bytes i = (bytes ≡ over bytes₀ (take i (drop from bytes₀))) × (length bytes ≡ length bytes₀) × (end ≤ length bytes₀) × (from + i ≤ end)
@@ -20,35 +18,27 @@ Inv-loop bytes₀ from end i₀ bytes i = (bytes ≡ over bytes₀ (take i (drop
 abbrev μ-loop : tie.MeasureT-loop
 μ-loop bytes₀ from end i₀ bytes i = end - (from + i)
 
--- src/main.rt:18:5
 loop-holds : tie.Need-loop-holds Inv-loop μ-loop
 loop-holds c = (sym (over-none _), refl, search needs, search needs)
 
--- src/main.rt:18:11
 add-loop : tie.Need-add-loop Inv-loop μ-loop
 add-loop c = search needs
 
--- src/main.rt:19:26
 add-bytes : tie.Need-add-bytes Inv-loop μ-loop
 add-bytes c = search needs
 
--- src/main.rt:19:20
 slice-read-bytes : tie.Need-slice-read-bytes Inv-loop μ-loop
 slice-read-bytes c = search needs
 
--- src/main.rt:19:9
 slice-write-bytes : tie.Need-slice-write-bytes Inv-loop μ-loop
 slice-write-bytes c = search needs
 
--- src/main.rt:20:9
 add-i : tie.Need-add-i Inv-loop μ-loop
 add-i c = search needs
 
--- src/main.rt:18:5
 loop-less : tie.Need-loop-less Inv-loop μ-loop
 loop-less c = search needs
 
--- src/main.rt:18:5
 loop-again : tie.Need-loop-again Inv-loop μ-loop
 loop-again c =
     let l = c .before .before .loop in
@@ -57,11 +47,9 @@ loop-again c =
     let e = l .inv .0 in
     (rw e (moved-next (now (s .args .bytes)) (s .args .from) (l .i) inside), search needs, search needs, search needs)
 
--- src/main.rt:13:1
 same-length : tie.Need-same-length Inv-loop μ-loop
 same-length c = search needs
 
--- src/main.rt:13:1
 returns : tie.Need-returns Inv-loop μ-loop
 returns c =
     let l = c .before .loop in

@@ -5,19 +5,13 @@ use lib.Seq.{length-take-le}
 use borrow.Author.Needs.{needs}
 use Rattle.course.proofs.print.Statement.{statement}
 use Rattle.course.proofs.print.Tie as tie
-use Rattle.course.proofs.print.Reads as reads
-use Rattle.course.proofs.print.Lts as lts
-use Rattle.io.proofs.write_all.Reads as write-all-reads
 
--- src/main.rt:86:34
 slice-aggregate-write-all : tie.Need-slice-aggregate-write-all
 slice-aggregate-write-all c = let s = c .before .before in sym (length-take-le (s .args .wrote) (s .args .out .now) (s .pre))
 
--- src/main.rt:86:5
 write-all-requires : tie.Need-write-all-requires
 write-all-requires c κs = search needs
 
--- src/main.rt:83:1
 returns : tie.Need-returns
 returns c = search needs
 

@@ -9,38 +9,27 @@ use Rattle.course.proofs.Blocks.{refilled-none, refilled-some}
 use borrow.Author.Needs.{needs}
 use Rattle.course.proofs.refill.Statement.{statement}
 use Rattle.course.proofs.refill.Tie as tie
-use Rattle.course.proofs.refill.Reads as reads
-use Rattle.course.proofs.refill.Lts as lts
-use Rattle.course.proofs.fill.Reads as fill-reads
-use Rattle.course.proofs.keep.Reads as keep-reads
 
--- src/main.rt:63:14
 sub-if1 : tie.Need-sub-if1
 sub-if1 c = search needs
 
--- src/main.rt:64:9
 returns : tie.Need-returns
 returns c =
     let s = c .before .before in
     refilled-none (now (s .args .bytes)) (now (s .args .bytes)) (s .args .from) (s .args .end) (s .args .end) (s .pre .0) (s .pre .1) (omega arith)
 
--- src/main.rt:71:5
 keep-requires : tie.Need-keep-requires
 keep-requires c κs = search needs
 
--- src/main.rt:72:16
 sub-have : tie.Need-sub-have
 sub-have c = search needs
 
--- src/main.rt:73:9
 fill-requires : tie.Need-fill-requires
 fill-requires c κs = search needs
 
--- src/main.rt:59:1
 same-length : tie.Need-same-length
 same-length c = search needs
 
--- src/main.rt:59:1
 returns-2 : tie.Need-returns-2
 returns-2 c =
     let s = c .before .before .before .before .before .before .before .before .before .before .before in

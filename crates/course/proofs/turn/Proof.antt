@@ -1,11 +1,10 @@
 -- `course::turn`: what waits is refilled, and what the card is fed with is that. Where the read failed nothing was fed.
 -- Assumes nothing.
-use Prim.Native.Nat.{_-_, _≤_}
-use mathlib.Core.Path.{_≡_, refl, sym, _∙_}
-use mathlib.Core.Bool.{true}
+use Prim.Native.Nat.{_-_}
+use mathlib.Core.Path.{refl, _∙_}
 use mathlib.Core.Logic.{inr, ⊎-elim}
 use native.Mathlib.Omega.{arith}
-use borrow.Author.Tests.{not-false}
+use borrow.Author.Tests.{not-true, not-false}
 use Rattle.course.proofs.Standings.{used-in, printed-in, turned-fed}
 use borrow.Author.Needs.{needs}
 use Rattle.course.proofs.turn.Statement.{statement}
@@ -28,7 +27,13 @@ returns : tie.Need-returns
 returns c =
     let r = c .before .before .before .before in
     let filled = r .refill .ensures in
-    record { fed = inr (refl, refl); fit = r .before .before .before .before .before .before .before .before .before .before .pre .0; start-in = filled .start-in; end-in = filled .end-in; out-long = refl }
+    record {
+      fed = inr (record { few = filled .failed-so (not-true _ (c .if1 .taken)); reading-is = refl; out-is = refl; fails = refl; ends = refl });
+      fit = r .before .before .before .before .before .before .before .before .before .before .pre .0;
+      start-in = filled .start-in;
+      end-in = filled .end-in;
+      out-long = refl;
+    }
 
 sub-feed : tie.Need-sub-feed
 sub-feed c = search needs
