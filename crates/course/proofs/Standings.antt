@@ -1,7 +1,7 @@
 -- What a turn leaves: what was read and fed is the outcome of feeding, and a turn after which more is read has read a byte or taken a line.
 -- So turns come to an end.
 -- Assumes nothing.
-use Prim.Native.Nat.{ℕ, suc, _+_, _-_, _*_, _/_, _≤_, _<_, zero-le}
+use Prim.Native.Nat.{ℕ, suc, _+_, _-_, _*_, _≤_, _<_, zero-le}
 use mathlib.Core.Path.{_≡_, refl, sym, ap, _∙_}
 use mathlib.Core.Bool.{Bool, true, false, cond, not, _&&_}
 use mathlib.Core.List.{List, [], _++_}
@@ -9,14 +9,14 @@ use mathlib.Core.Logic.{_⊎_, inl, inr}
 use native.Mathlib.Omega.{arith}
 use lib.ListN.{length, drop, length-append, length-drop}
 use borrow.Author.Tests.{lt-ltb, not-true}
-use Rattle.rules.specs.Ranges.{over}
-use Rattle.rules.proofs.Ranges.{true-or-false, not-both, first-le}
+use Rattle.rules.proofs.Ranges.{true-or-false, not-both}
 use Rattle.rules.proofs.Verdicts.{and-both}
 use Rattle.reading.specs.Card.{Reading, reads}
 use Rattle.reading.specs.Held.{Areas, readingOf, Room, Fit}
-use Rattle.card.specs.Files.{fed, readsOn, piecesRead}
+use Rattle.card.specs.Files.{fed, piecesRead}
 use Rattle.feeding.specs.declared.Fed.{Fed}
 use Rattle.feeding.specs.Feeding.{isLast, FeedOutcome, feedOutcome, FedTo}
+use Rattle.feeding.proofs.Feeds.{pieces-in}
 use Rattle.feeding.proofs.Lines.{fed-lines, feed-takes-line}
 use Rattle.course.specs.declared.Feeding.{Feeding}
 use Rattle.course.specs.declared.Waiting.{Waiting}
@@ -25,18 +25,9 @@ use Rattle.course.proofs.Blocks.{part-long, part-rest}
 
 -- ---- the bytes that the card takes
 
-pub pieces-in : (r : Reading) (bytes : List ℕ) (room : ℕ) → 11 * piecesRead r bytes room ≤ length bytes
-unfolding piecesRead
-pieces-in r bytes room = omega (arith, first-le (λ m. not (readsOn r bytes room m)) (length bytes / 11))
-
 pub used-in : (r : Reading) (bytes : List ℕ) (from room : ℕ) {end used : ℕ} → end ≤ length bytes → used ≡ 11 * piecesRead r (part bytes from end) room
     → used ≤ end - from
 used-in r bytes from room {end} in-block e = omega (arith, pieces-in r (part bytes from end) room, part-long bytes from end in-block)
-
--- what is printed lies in the output area
-pub printed-in : (out xs : List ℕ) {out′ : List ℕ} → out′ ≡ over out xs → length out′ ≡ length out → length xs ≤ length out
-unfolding over
-printed-in out xs e long = omega (arith, long, simp length-append at (ap length e))
 
 -- ---- a turn
 

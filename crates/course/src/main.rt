@@ -3,12 +3,12 @@
 use libc::STDIN_FILENO;
 use libc::STDOUT_FILENO;
 use reading::Card;
-ghost use Prim.Native.Nat.{_-_, _≤_, _<_};
+ghost use Prim.Native.Nat.{_≤_};
 ghost use mathlib.Core.Path.{_≡_};
 ghost use mathlib.Core.Bool.{false};
 ghost use lib.ListN.{length, take};
 ghost use Rattle.rules.specs.Ranges.{over};
-ghost use Rattle.reading.specs.Held.{areas, Room, lent, entered, left, Fit};
+ghost use Rattle.reading.specs.Held.{Room, lent, entered, left, Fit};
 ghost use Rattle.course.specs.Waiting.{part, filledBy, Refilled, standing, Turned, fresh, Reached};
 
 // A card, the bytes that wait in the block, whether more is to be read, and whether a read or a write has failed.

@@ -29,7 +29,7 @@ unfolding piecesRead
 pieces-in r bytes room = omega (arith, first-le (λ m. not (readsOn r bytes room m)) (length bytes / 11))
 
 -- what is written lies within the area where the area's length is kept
-over-in : (area xs : List ℕ) {l : List ℕ} → l ≡ over area xs → length l ≡ length area → length xs ≤ length area
+pub over-in : (area xs : List ℕ) {l : List ℕ} → l ≡ over area xs → length l ≡ length area → length xs ≤ length area
 unfolding over
 over-in area xs e same = omega (arith, ap length e, length-append xs (drop (length xs) area))
 

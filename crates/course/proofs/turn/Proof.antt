@@ -5,7 +5,8 @@ use mathlib.Core.Path.{refl, _∙_}
 use mathlib.Core.Logic.{inr, ⊎-elim}
 use native.Mathlib.Omega.{arith}
 use borrow.Author.Tests.{not-true, not-false}
-use Rattle.course.proofs.Standings.{used-in, printed-in, turned-fed}
+use Rattle.feeding.proofs.Feeds.{over-in}
+use Rattle.course.proofs.Standings.{used-in, turned-fed}
 use borrow.Author.Needs.{needs}
 use Rattle.course.proofs.turn.Statement.{statement}
 use Rattle.course.proofs.turn.Tie as tie
@@ -51,7 +52,7 @@ print-requires : tie.Need-print-requires
 print-requires c κs =
     let f = c .before .before .before .before .before .before .before .before .before .before .before .before .before .before .before .feed in
     let kept = f .kept .1 .1 .1 .1 .1 .1 .1 .1 .1 .0 in
-    omega (arith, f .ensures .wrote-is, printed-in _ _ (f .ensures .out-is) kept, kept)
+    omega (arith, f .ensures .wrote-is, over-in _ _ (f .ensures .out-is) kept, kept)
 
 add-t53 : tie.Need-add-t53
 add-t53 c =
