@@ -10,8 +10,10 @@ use Rattle.rules.proofs.Ranges.{not-both}
 use Rattle.rules.proofs.Verdicts.{and-both}
 use Rattle.reading.specs.Card.{Reading, start}
 use Rattle.reading.specs.Held.{Areas}
+use Rattle.card.specs.Files.{coursePrints}
 use Rattle.feeding.specs.Feeding.{Turns, last, more as one-more}
-use Rattle.course.specs.Waiting.{Standing, standing, readingIn, waitingIn, fedWith, FedOn, ReadFailed, Turned, fresh, Reached, here, turned, cameBy, printedBy, cameIn, printedIn}
+use Rattle.feeding.proofs.Blocks.{blocks-print}
+use Rattle.course.specs.Waiting.{Standing, standing, readingIn, waitingIn, fedWith, FedOn, ReadFailed, Turned, fresh, Reached, here, turned, cameBy, printedBy, endedBy, cameIn, printedIn, endedIn}
 use Rattle.course.proofs.Standings.{goes-on}
 
 abbrev Left : ℕ → Standing → List ℕ → List ℕ → Type 0
@@ -55,20 +57,20 @@ module _ {s s′ : Standing} (turn : Turned s s′) where
         go (inl f) = fed-more f
         go (inr failed) = absurd (not-both on (failed .ends))
 
-  -- a turn after which nothing more is read
-  module _ (off : s′ .feeding .more ≡ false) (fine : s′ .feeding .failed ≡ false) where
-    fed-last : (f : FedOn s s′) → Left (length (s .out)) s (f .came ++ []) (fedWith s (f .came) (f .ended) .printed)
-    fed-last f =
+  -- a turn after which nothing more is read, whatever was still to come
+  module _ (off : s′ .feeding .more ≡ false) (fine : s′ .feeding .failed ≡ false) (unread : List ℕ) where
+    fed-last : (f : FedOn s s′) → (f .ended ≡ true → unread ≡ []) → Left (length (s .out)) s (f .came ++ unread) (fedWith s (f .came) (f .ended) .printed)
+    fed-last f end =
         let none = sym (and-yes (fedWith s (f .came) (f .ended) .more)) ∙ rw fine at (sym (f .more-is) ∙ off) in
-        last (f .came) [] (f .ended) none (λ e. rw (f .came-so .ended-is e .1))
+        last (f .came) unread (f .ended) none (λ e. rw (f .came-so .ended-is e .1) (end e))
 
-    turn-last : Left (length (s .out)) s (cameBy turn ++ []) (printedBy turn)
+    turn-last : (endedBy turn ≡ true → unread ≡ []) → Left (length (s .out)) s (cameBy turn ++ unread) (printedBy turn)
     turn-last = go (turn .fed)
       where
-        go : (fed : FedOn s s′ ⊎ ReadFailed s s′)
-            → Left (length (s .out)) s (⊎-elim (λ f. f .came) (λ failed. []) fed ++ []) (⊎-elim (λ f. fedWith s (f .came) (f .ended) .printed) (λ failed. []) fed)
-        go (inl f) = fed-last f
-        go (inr failed) = absurd (not-both (failed .fails) fine)
+        go : (fed : FedOn s s′ ⊎ ReadFailed s s′) → (⊎-elim (λ f. f .ended) (λ failed. false) fed ≡ true → unread ≡ [])
+            → Left (length (s .out)) s (⊎-elim (λ f. f .came) (λ failed. []) fed ++ unread) (⊎-elim (λ f. fedWith s (f .came) (f .ended) .printed) (λ failed. []) fed)
+        go (inl f) end = fed-last f end
+        go (inr failed) end = absurd (not-both (failed .fails) fine)
 
 -- turns after which more is read, and then the rest
 turns-more : {s t : Standing} (path : Reached s t) → s .feeding .end ≤ length (s .bytes) → t .feeding .more ≡ true → {file printed : List ℕ}
@@ -79,9 +81,16 @@ turns-more (turned before more turn) end-in on {file} {printed} rest =
     rw (append-assoc, append-assoc)
     (turns-more before end-in more (in-room (room-kept before) (turn-more turn (block-kept before end-in) on (in-room (sym (room-kept before)) rest))))
 
-pub served-turns : {bytes out : List ℕ} {a : Areas} {t : Standing} (path : Reached (standing fresh bytes a out) t)
-    → t .feeding .more ≡ false → t .feeding .failed ≡ false → Turns (length out) start [] (cameIn path) (printedIn path)
-unfolding cameIn printedIn
-served-turns here off fine = absurd (not-both refl off)
-served-turns (turned before more turn) off fine =
-    turns-more before zero-le more (in-room (room-kept before) (rw append-nil at (turn-last turn off fine)))
+served-turns : {bytes out : List ℕ} {a : Areas} {t : Standing} (path : Reached (standing fresh bytes a out) t)
+    → t .feeding .more ≡ false → t .feeding .failed ≡ false → (unread : List ℕ) → (endedIn path ≡ true → unread ≡ [])
+    → Turns (length out) start [] (cameIn path ++ unread) (printedIn path)
+unfolding cameIn printedIn endedIn
+served-turns here off fine unread end = absurd (not-both refl off)
+served-turns (turned before more turn) off fine unread end =
+    rw append-assoc (turns-more before zero-le more (in-room (room-kept before) (turn-last turn off fine unread end)))
+
+-- what came and what was never read are the file; where it had ended there is nothing that was not read
+pub served-prints : {bytes out : List ℕ} {a : Areas} {t : Standing} (path : Reached (standing fresh bytes a out) t)
+    → t .feeding .more ≡ false → t .feeding .failed ≡ false → (unread : List ℕ) → (endedIn path ≡ true → unread ≡ [])
+    → printedIn path ≡ coursePrints (cameIn path ++ unread)
+served-prints path off fine unread end = blocks-print (served-turns path off fine unread end)

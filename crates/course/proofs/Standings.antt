@@ -21,7 +21,7 @@ use Rattle.feeding.proofs.Lines.{fed-lines, feed-takes-line}
 use Rattle.course.specs.declared.Feeding.{Feeding}
 use Rattle.course.specs.declared.Waiting.{Waiting}
 use Rattle.course.specs.Waiting.{part, Refilled, Standing, standing, readingIn, waitingIn, fedWith, FedOn, ReadFailed, Turned, fresh, Reached, here, turned}
-use Rattle.course.proofs.Blocks.{part-long, part-rest}
+use Rattle.course.proofs.Refills.{part-long, part-rest}
 
 -- ---- the bytes that the card takes
 

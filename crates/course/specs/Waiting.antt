@@ -99,12 +99,15 @@ pub data Reached (s : Standing) : Standing → Type 0 where
   here : Reached s s
   turned : {t u : Standing} → Reached s t → t .feeding .more ≡ true → Turned t u → Reached s u
 
--- what came in a turn, and what was printed
+-- what came in a turn, what was printed, and whether the file had ended
 abbrev pub cameBy : {s s′ : Standing} → Turned s s′ → List ℕ
 cameBy turn = ⊎-elim (λ fed. fed .came) (λ failed. []) (turn .fed)
 
 abbrev pub printedBy : {s s′ : Standing} → Turned s s′ → List ℕ
 printedBy {s} turn = ⊎-elim (λ fed. fedWith s (fed .came) (fed .ended) .printed) (λ failed. []) (turn .fed)
+
+abbrev pub endedBy : {s s′ : Standing} → Turned s s′ → Bool
+endedBy turn = ⊎-elim (λ fed. fed .ended) (λ failed. false) (turn .fed)
 
 -- and in all of them
 unfoldable pub cameIn : {s t : Standing} → Reached s t → List ℕ
@@ -114,3 +117,7 @@ cameIn (turned before more turn) = cameIn before ++ cameBy turn
 unfoldable pub printedIn : {s t : Standing} → Reached s t → List ℕ
 printedIn here = []
 printedIn (turned before more turn) = printedIn before ++ printedBy turn
+
+unfoldable pub endedIn : {s t : Standing} → Reached s t → Bool
+endedIn here = false
+endedIn (turned before more turn) = endedBy turn

@@ -4,7 +4,7 @@ use denote.Ref.{now}
 use mir.Facts.{toZ-ofZ}
 use native.Mathlib.Omega.{arith}
 use lib.ListN.{length}
-use Rattle.course.proofs.Blocks.{part-long, read-by}
+use Rattle.course.proofs.Refills.{part-long, read-by}
 use borrow.Author.Needs.{needs}
 use Rattle.course.proofs.after_read.Statement.{statement}
 use Rattle.course.proofs.after_read.Tie as tie

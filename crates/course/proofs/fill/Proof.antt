@@ -3,7 +3,7 @@
 use lib.ListN.{length, take}
 use lib.Seq.{length-take-le, take-at}
 use denote.Ref.{now}
-use Rattle.course.proofs.Blocks.{filled-past, filled-in}
+use Rattle.course.proofs.Refills.{filled-past, filled-in}
 use borrow.Author.Needs.{needs}
 use Rattle.course.proofs.fill.Statement.{statement}
 use Rattle.course.proofs.fill.Tie as tie

@@ -8,7 +8,7 @@ use lib.ListN.{length, take, drop}
 use denote.Ref.{now}
 use Rattle.rules.specs.Ranges.{over}
 use Rattle.rules.proofs.Ranges.{over-none}
-use Rattle.course.proofs.Blocks.{moved-next}
+use Rattle.course.proofs.Refills.{moved-next}
 use Rattle.course.proofs.keep.Statement.{statement}
 use Rattle.course.proofs.keep.Tie as tie
 

@@ -5,7 +5,7 @@ use mathlib.Core.Path.{_∙_, ap}
 use native.Mathlib.Omega.{arith}
 use lib.ListN.{take}
 use denote.Ref.{now}
-use Rattle.course.proofs.Blocks.{refilled-none, refilled-some}
+use Rattle.course.proofs.Refills.{refilled-none, refilled-some}
 use borrow.Author.Needs.{needs}
 use Rattle.course.proofs.refill.Statement.{statement}
 use Rattle.course.proofs.refill.Tie as tie
