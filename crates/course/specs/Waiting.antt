@@ -1,49 +1,123 @@
 -- The bytes that wait between two turns: which they are after a read, and after they were fed to the card.
-use Prim.Native.Nat.{ℕ, _+_, _-_, _≤_, _<_}
+use Prim.Native.Nat.{ℕ, _+_, _-_, _≤_, _<_, min}
 use mathlib.Core.Path.{_≡_}
 use mathlib.Core.Bool.{Bool, true, false, not, _&&_}
 use mathlib.Core.List.{List, [], _++_}
-use mathlib.Core.Logic.{_⊎_}
+use mathlib.Core.Logic.{_⊎_, ⊎-elim}
+use lib.IntN.{ℤ, pos, negsuc}
 use lib.ListN.{length, take, drop}
 use Rattle.rules.specs.Ranges.{over}
-use Rattle.reading.specs.Held.{Areas, readingOf, Fit}
+use Rattle.reading.specs.Card.{Reading}
+use Rattle.reading.specs.Held.{Areas, readingOf, freshCard, Fit}
 use Rattle.feeding.specs.Feeding.{FeedOutcome, feedOutcome}
 use Rattle.course.specs.declared.Feeding.{Feeding}
+use Rattle.course.specs.declared.Filled.{Filled}
 use Rattle.course.specs.declared.Waiting.{Waiting}
 
 -- the bytes from one place up to another
 abbrev pub part : List ℕ → ℕ → ℕ → List ℕ
 part bytes from end = take (end - from) (drop from bytes)
 
--- some bytes came behind those that wait. None did where a whole line waits, or the file has ended; else one at least, or the read failed
+-- ---- a read
+
+-- what a read's answer says of a block of so many bytes, of which the first are there: below 0 it failed, else so many came behind them
+unfoldable pub filledBy : ℤ → ℕ → ℕ → Filled
+filledBy (pos got) have size = record { well = true; end = have + min got (size - have) }
+filledBy (negsuc got) have size = record { well = false; end = have }
+
+-- what comes behind the bytes that wait: nothing where a whole line waits or the file has ended, else one byte at least
+pub record Came (waiting : ℕ) (came : List ℕ) (ended : Bool) : Type 0 where
+  pub ended-is : ended ≡ true → (waiting < 11) × (came ≡ [])
+  pub brought : ended ≡ false → ((11 ≤ waiting) × (came ≡ [])) ⊎ (1 ≤ length came)
+
+-- some bytes came behind those that wait; nothing is read, and so no read fails, where a whole line waits
 pub record Refilled (bytes : List ℕ) (from end : ℕ) (waiting : Waiting) (bytes′ : List ℕ) : Type 0 where
   pub came : List ℕ
+  pub came-so : waiting .well ≡ true → Came (end - from) came (waiting .ended)
+  pub failed-so : waiting .well ≡ false → end - from < 11
+  pub waits : part bytes′ (waiting .from) (waiting .end) ≡ part bytes from end ++ came
   pub start-in : waiting .from ≤ waiting .end
   pub end-in : waiting .end ≤ length bytes′
-  pub waits : part bytes′ (waiting .from) (waiting .end) ≡ part bytes from end ++ came
-  pub ended-is : waiting .ended ≡ true → (came ≡ []) × (end - from < 11)
-  pub brought : waiting .well ≡ true → waiting .ended ≡ false → ((11 ≤ end - from) × (came ≡ [])) ⊎ (1 ≤ length came)
 
--- the outcome of feeding a card with what waits and what came
-abbrev pub fedWith : Feeding → List ℕ → Areas → List ℕ → List ℕ → Bool → FeedOutcome
-fedWith feeding bytes a out came ended =
-    feedOutcome (readingOf (feeding .card) a) (part bytes (feeding .from) (feeding .end) ++ came) ended (length out)
+-- ---- a turn
 
--- what the card makes of what waited and of what came is the outcome of feeding it; what it left still waits; more is read exactly where
--- the outcome says so and nothing failed
-pub record FedOn (feeding : Feeding) (bytes : List ℕ) (a : Areas) (out : List ℕ) (after : Feeding) (bytes′ : List ℕ) (a′ : Areas) (out′ : List ℕ) : Type 0 where
+-- what stands between two turns
+pub record Standing : Type 0 where
+  pub feeding : Feeding
+  pub bytes : List ℕ
+  pub areas : Areas
+  pub out : List ℕ
+
+abbrev pub standing : Feeding → List ℕ → Areas → List ℕ → Standing
+standing feeding bytes a out = record { feeding = feeding; bytes = bytes; areas = a; out = out }
+
+abbrev pub readingIn : Standing → Reading
+readingIn s = readingOf (s .feeding .card) (s .areas)
+
+abbrev pub waitingIn : Standing → List ℕ
+waitingIn s = part (s .bytes) (s .feeding .from) (s .feeding .end)
+
+-- the outcome of feeding the card with what waits and what came
+abbrev pub fedWith : Standing → List ℕ → Bool → FeedOutcome
+fedWith s came ended = feedOutcome (readingIn s) (waitingIn s ++ came) ended (length (s .out))
+
+-- the card was fed with what waited and what came: its reading, what still waits and what is printed are the outcome's; more is read exactly
+-- where the outcome says so and nothing failed
+pub record FedOn (s s′ : Standing) : Type 0 where
   pub came : List ℕ
   pub ended : Bool
-  pub ended-is : ended ≡ true → (came ≡ []) × (feeding .end - feeding .from < 11)
-  pub brought : ended ≡ false → ((11 ≤ feeding .end - feeding .from) × (came ≡ [])) ⊎ (1 ≤ length came)
-  pub reading-is : readingOf (after .card) a′ ≡ fedWith feeding bytes a out came ended .reading
-  pub rest-is : part bytes′ (after .from) (after .end) ≡ fedWith feeding bytes a out came ended .rest
-  pub out-is : out′ ≡ over out (fedWith feeding bytes a out came ended .printed)
-  pub more-is : after .more ≡ (fedWith feeding bytes a out came ended .more && not (after .failed))
+  pub came-so : Came (s .feeding .end - s .feeding .from) came ended
+  pub reading-is : readingIn s′ ≡ fedWith s came ended .reading
+  pub rest-is : waitingIn s′ ≡ fedWith s came ended .rest
+  pub out-is : s′ .out ≡ over (s .out) (fedWith s came ended .printed)
+  pub more-is : s′ .feeding .more ≡ (fedWith s came ended .more && not (s′ .feeding .failed))
 
--- a turn: the card is fit, what waits lies in the block, and the bytes were fed, unless the read failed
-pub record Turned (feeding : Feeding) (bytes : List ℕ) (a : Areas) (out : List ℕ) (after : Feeding) (bytes′ : List ℕ) (a′ : Areas) (out′ : List ℕ) : Type 0 where
-  pub fit : Fit (after .card) a′
-  pub start-in : after .from ≤ after .end
-  pub end-in : after .end ≤ length bytes′
-  pub fed : FedOn feeding bytes a out after bytes′ a′ out′ ⊎ ((after .failed ≡ true) × (after .more ≡ false))
+-- no whole line waited, and the read failed: nothing is fed or printed, and nothing more is read
+pub record ReadFailed (s s′ : Standing) : Type 0 where
+  pub few : s .feeding .end - s .feeding .from < 11
+  pub reading-is : readingIn s′ ≡ readingIn s
+  pub out-is : s′ .out ≡ s .out
+  pub fails : s′ .feeding .failed ≡ true
+  pub ends : s′ .feeding .more ≡ false
+
+-- a turn: the card was fed, or the read failed. The card is fit, and what waits lies in the block
+pub record Turned (s s′ : Standing) : Type 0 where
+  pub fed : FedOn s s′ ⊎ ReadFailed s s′
+  pub fit : Fit (s′ .feeding .card) (s′ .areas)
+  pub start-in : s′ .feeding .from ≤ s′ .feeding .end
+  pub end-in : s′ .feeding .end ≤ length (s′ .bytes)
+  pub out-long : length (s′ .out) ≡ length (s .out)
+
+-- ---- turn after turn
+
+-- before the first byte
+abbrev pub fresh : Feeding
+fresh = record { card = freshCard; from = 0; end = 0; more = true; failed = false }
+
+-- what turns lead to; there is a turn only where more is to be read
+pub data Reached (s : Standing) : Standing → Type 0 where
+  here : Reached s s
+  turned : {t u : Standing} → Reached s t → t .feeding .more ≡ true → Turned t u → Reached s u
+
+-- what came in a turn, what was printed, and whether the file had ended
+abbrev pub cameBy : {s s′ : Standing} → Turned s s′ → List ℕ
+cameBy turn = ⊎-elim (λ fed. fed .came) (λ failed. []) (turn .fed)
+
+abbrev pub printedBy : {s s′ : Standing} → Turned s s′ → List ℕ
+printedBy {s} turn = ⊎-elim (λ fed. fedWith s (fed .came) (fed .ended) .printed) (λ failed. []) (turn .fed)
+
+abbrev pub endedBy : {s s′ : Standing} → Turned s s′ → Bool
+endedBy turn = ⊎-elim (λ fed. fed .ended) (λ failed. false) (turn .fed)
+
+-- and in all of them
+unfoldable pub cameIn : {s t : Standing} → Reached s t → List ℕ
+cameIn here = []
+cameIn (turned before more turn) = cameIn before ++ cameBy turn
+
+unfoldable pub printedIn : {s t : Standing} → Reached s t → List ℕ
+printedIn here = []
+printedIn (turned before more turn) = printedIn before ++ printedBy turn
+
+unfoldable pub endedIn : {s t : Standing} → Reached s t → Bool
+endedIn here = false
+endedIn (turned before more turn) = endedBy turn

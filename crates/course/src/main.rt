@@ -3,13 +3,13 @@
 use libc::STDIN_FILENO;
 use libc::STDOUT_FILENO;
 use reading::Card;
-ghost use Prim.Native.Nat.{_-_, _≤_, _<_};
+ghost use Prim.Native.Nat.{_≤_};
 ghost use mathlib.Core.Path.{_≡_};
 ghost use mathlib.Core.Bool.{false};
 ghost use lib.ListN.{length, take};
 ghost use Rattle.rules.specs.Ranges.{over};
-ghost use Rattle.reading.specs.Held.{areas, Room, lent, entered, left, Fit};
-ghost use Rattle.course.specs.Waiting.{part, Refilled, Turned};
+ghost use Rattle.reading.specs.Held.{Room, lent, entered, left, Fit};
+ghost use Rattle.course.specs.Waiting.{part, filledBy, Refilled, standing, Turned, fresh, Reached};
 
 // A card, the bytes that wait in the block, whether more is to be read, and whether a read or a write has failed.
 struct Feeding {
@@ -38,22 +38,24 @@ struct Filled {
     end: usize,
 }
 
+// What a read's answer says of the bytes: below 0 it failed, else so many came behind those that are there.
+fn after_read(got: isize, bytes: &[u8], have: usize) -> Filled
+    requires { ⌜ have ≤ length (now bytes) ⌝ }
+    ensures { λ r. ⌜ r ≡ filledBy got have (length (now (bytes .entry))) ⌝ }
+{
+    Filled {
+        well: 0 <= got,
+        end: have + io::count(got, &bytes[have..]),
+    }
+}
+
 // One read, behind the bytes that are there.
 fn fill(bytes: &mut [u8], have: usize) -> Filled
     requires { ⌜ have ≤ length (now bytes) ⌝ }
     ensures { λ r. ⌜ (have ≤ r .end) × (r .end ≤ length (now (bytes .exit))) × (take have (now (bytes .exit)) ≡ take have (now (bytes .entry))) ⌝ }
 {
     let got = libc::read(STDIN_FILENO, &mut bytes[have..]);
-    if got < 0 {
-        return Filled {
-            well: false,
-            end: have,
-        };
-    }
-    Filled {
-        well: true,
-        end: have + io::count(got, &bytes[have..]),
-    }
+    after_read(got, bytes, have)
 }
 
 // The bytes that wait, whether the file has ended with them, and whether the read went well.
@@ -110,7 +112,7 @@ fn turn(
 ) -> Feeding
     requires { ⌜ Fit (feeding .card) (lent tracks needs words directory work list) ⌝ }
     requires { ⌜ (feeding .from ≤ feeding .end) × (feeding .end ≤ length (now bytes)) × (11 ≤ length (now bytes)) × (5145 ≤ length (now out)) ⌝ }
-    ensures { λ r. ⌜ Turned feeding (now (bytes .entry)) (entered tracks needs words directory work list) (now (out .entry)) r (now (bytes .exit)) (left tracks needs words directory work list) (now (out .exit)) ⌝ }
+    ensures { λ r. ⌜ Turned (standing feeding (now (bytes .entry)) (entered tracks needs words directory work list) (now (out .entry))) (standing r (now (bytes .exit)) (left tracks needs words directory work list) (now (out .exit))) ⌝ }
 {
     let waiting = refill(bytes, feeding.from, feeding.end);
     let from = waiting.from;
@@ -161,6 +163,7 @@ fn serve(
     requires { ⌜ Room (lent tracks needs words directory work list) ⌝ }
     requires { ⌜ (11 ≤ length (now bytes)) × (5145 ≤ length (now out)) ⌝ }
     ensures { λ r. ⌜ r .more ≡ false ⌝ }
+    ensures { λ r. ⌜ Reached (standing fresh (now (bytes .entry)) (entered tracks needs words directory work list) (now (out .entry))) (standing r (now (bytes .exit)) (left tracks needs words directory work list) (now (out .exit))) ⌝ }
 {
     let mut feeding = Feeding {
         card: reading::start(),
