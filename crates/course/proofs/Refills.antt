@@ -15,7 +15,7 @@ use lib.Seq.{length-take-le, take-suc, getD-drop, take-nil, take-at, take-add, d
 use borrow.Author.Tests.{eqb-true, eqb-false, le-leb}
 use Rattle.io.specs.Counts.{clamped}
 use Rattle.rules.specs.Ranges.{over}
-use Rattle.rules.proofs.Ranges.{over-next, getD-past}
+use Rattle.rules.proofs.Overs.{over-next, over-rest}
 use Rattle.course.specs.Waiting.{part, filledBy, Refilled}
 
 -- ---- bytes moved to the front
@@ -29,13 +29,19 @@ module _ (bytes : List ℕ) (from i : ℕ) (h : from + i < length bytes) where
 
   -- a byte that is still to be moved is as it was
   byte-kept : getD moved (from + i) 0 ≡ getD (drop from bytes) i 0
-  byte-kept = getD-past bytes (take i (drop from bytes)) (from + i) (omega (arith, front-long)) ∙ sym (getD-drop from bytes i 0)
+  byte-kept =
+      let e : from + i ≡ i + from = omega arith in
+      ap (λ (j : ℕ). getD moved j 0) e
+      ∙ sym (getD-drop i moved from 0)
+      ∙ ap (λ (l : List ℕ). getD l from 0) (over-rest bytes (take i (drop from bytes)) i front-long)
+      ∙ getD-drop i bytes from 0
+      ∙ ap (λ (j : ℕ). getD bytes j 0) (sym e)
+      ∙ sym (getD-drop from bytes i 0)
 
   pub moved-next : set moved i (getD moved (from + i) 0) ≡ over bytes (take (i + 1) (drop from bytes))
   moved-next =
       rw (byte-kept, add-one, take-suc (drop from bytes) i 0 (simp length-drop (omega arith)))
-      (ap (λ (j : ℕ). set moved j (getD (drop from bytes) i 0)) (sym front-long)
-      ∙ over-next bytes (take i (drop from bytes)) (getD (drop from bytes) i 0) (omega (arith, front-long)))
+      (over-next bytes (take i (drop from bytes)) i (getD (drop from bytes) i 0) front-long (omega arith))
 
 -- ---- a read
 

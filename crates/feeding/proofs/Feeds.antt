@@ -14,7 +14,7 @@ use borrow.Rule.Slice.PartMut.{midOf, putMid}
 use Rattle.rules.specs.Ranges.{first, over}
 use Rattle.rules.proofs.Ranges.{first-le}
 use Rattle.rules.proofs.Verdicts.{and-both}
-use Rattle.frames.proofs.Overs.{rest-is, part-back}
+use Rattle.rules.proofs.Overs.{rest-is, part-back}
 use Rattle.reading.specs.declared.Card.{Card}
 use Rattle.reading.specs.Card.{Reading, reads}
 use Rattle.reading.specs.Held.{Areas, readingOf}

@@ -26,7 +26,7 @@ use Rattle.reading.specs.declared.Phase.{Phase}
 use Rattle.reading.specs.declared.Phase.the-variants.{Head, Tracks, Needs, Asking, Stopped}
 use Rattle.reading.specs.Card.{Reading, Next, refuse, headFrame, trackFrame, needFrame, loaded, endFrame, questionFrame, frameInPhase, counted, afterLine, reads, readLine}
 use Rattle.card.specs.Files.{fed, readsOn, piecesRead}
-use Rattle.card.proofs.Files.{stopped-line}
+use Rattle.order.proofs.Turns.{stopped-line}
 
 -- ---- a frame leaves the count of lines
 

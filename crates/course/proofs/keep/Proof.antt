@@ -7,7 +7,7 @@ use borrow.Author.Needs.{needs}
 use lib.ListN.{length, take, drop}
 use denote.Ref.{now}
 use Rattle.rules.specs.Ranges.{over}
-use Rattle.rules.proofs.Ranges.{over-none}
+use Rattle.rules.proofs.Overs.{over-none}
 use Rattle.course.proofs.Refills.{moved-next}
 use Rattle.course.proofs.keep.Statement.{statement}
 use Rattle.course.proofs.keep.Tie as tie
@@ -19,7 +19,7 @@ abbrev μ-loop : tie.MeasureT-loop
 μ-loop bytes₀ from end i₀ bytes i = end - (from + i)
 
 loop-holds : tie.Need-loop-holds Inv-loop μ-loop
-loop-holds c = (sym (over-none _), refl, search needs, search needs)
+loop-holds c = (over-none _, refl, search needs, search needs)
 
 add-loop : tie.Need-add-loop Inv-loop μ-loop
 add-loop c = search needs
