@@ -75,17 +75,7 @@ pub extern "C" fn ngolishepa_inner_needed(
     requires { ⌜ UnitOf (now tracks) u ⌝ }
     ensures { λ r. ⌜ record { answer = r; list = now (list .exit) } ≡ toldList (listAnswer (listRoom (kind12 (parts (now (lens .entry)) k (now (tracks .entry)) (now (words .entry)) (now (directory .entry))) u) (now (list .entry)) place) (kind12 (parts (now (lens .entry)) k (now (tracks .entry)) (now (words .entry)) (now (directory .entry))) u) (now (list .entry)) place) ⌝ }
 {
-    ngolishepa::tell_number(known::needed(
-        tracks,
-        words,
-        directory,
-        lens,
-        starts,
-        k,
-        u,
-        list,
-        place,
-    ))
+    telling::tell_number(known::needed(tracks, words, directory, lens, starts, k, u, list, place))
 }
 
 // Kind 13.
@@ -105,17 +95,7 @@ pub extern "C" fn ngolishepa_inner_needing(
     requires { ⌜ UnitOf (now tracks) u ⌝ }
     ensures { λ r. ⌜ record { answer = r; list = now (list .exit) } ≡ toldList (listAnswer (listRoom (kind13 (parts (now (lens .entry)) k (now (tracks .entry)) (now (words .entry)) (now (directory .entry))) u) (now (list .entry)) place) (kind13 (parts (now (lens .entry)) k (now (tracks .entry)) (now (words .entry)) (now (directory .entry))) u) (now (list .entry)) place) ⌝ }
 {
-    ngolishepa::tell_number(known::needing(
-        tracks,
-        words,
-        directory,
-        lens,
-        starts,
-        k,
-        u,
-        list,
-        place,
-    ))
+    telling::tell_number(known::needing(tracks, words, directory, lens, starts, k, u, list, place))
 }
 
 // Kind 14.
@@ -135,7 +115,7 @@ pub extern "C" fn ngolishepa_inner_steps(
     requires { ⌜ UnitOf (now tracks) u ⌝ }
     ensures { λ r. ⌜ record { answer = r; list = now (list .exit) } ≡ toldList (listAnswer (listRoom (kind14 (parts (now (lens .entry)) k (now (tracks .entry)) (now (words .entry)) (now (directory .entry))) u) (now (list .entry)) place) (kind14 (parts (now (lens .entry)) k (now (tracks .entry)) (now (words .entry)) (now (directory .entry))) u) (now (list .entry)) place) ⌝ }
 {
-    ngolishepa::tell_number(known::steps(tracks, words, directory, lens, starts, k, u, list, place))
+    telling::tell_number(known::steps(tracks, words, directory, lens, starts, k, u, list, place))
 }
 
 // Kind 15.
@@ -155,17 +135,7 @@ pub extern "C" fn ngolishepa_inner_steps_up(
     requires { ⌜ UnitOf (now tracks) u ⌝ }
     ensures { λ r. ⌜ record { answer = r; list = now (list .exit) } ≡ toldList (listAnswer (listRoom (kind15 (parts (now (lens .entry)) k (now (tracks .entry)) (now (words .entry)) (now (directory .entry))) u) (now (list .entry)) place) (kind15 (parts (now (lens .entry)) k (now (tracks .entry)) (now (words .entry)) (now (directory .entry))) u) (now (list .entry)) place) ⌝ }
 {
-    ngolishepa::tell_number(known::steps_up(
-        tracks,
-        words,
-        directory,
-        lens,
-        starts,
-        k,
-        u,
-        list,
-        place,
-    ))
+    telling::tell_number(known::steps_up(tracks, words, directory, lens, starts, k, u, list, place))
 }
 
 // Kind 16.

@@ -1,17 +1,13 @@
 // The calls of the box for C: each hands its arguments on and tells the answer as plain numbers. include/ngolishepa.h declares them.
 use rules::Head;
-use rules::NumberAnswer;
 use rules::NumberTold;
-use rules::PairAnswer;
 use rules::PairTold;
-use rules::Refusal;
 use rules::Told;
-use rules::Verdict;
 ghost use mathlib.Core.Path.{_≡_};
 ghost use Rattle.rules.specs.Index.{index};
 ghost use Rattle.rules.specs.Listing.{listing, listingVerdict};
 ghost use Rattle.rules.specs.Outcomes.{buildOutcome, wholeVerdict, needsOutcome, isStepOutcome, neededOutcome, needingOutcome, stepsOutcome, stepsUpOutcome, stageOutcome, unitLowOutcome, unitHighOutcome};
-ghost use Rattle.rules.specs.Told.{toldRefusal, toldVerdict, toldPair, toldNumber, toldList, ListTold};
+ghost use Rattle.rules.specs.Told.{toldVerdict, toldPair, toldNumber, toldList, ListTold};
 ghost use Rattle.ngolishepa.specs.Told.{toldPart, toldBuild, BuildTold};
 ghost use Rattle.ngolishepa.specs.Version.{version};
 
@@ -31,70 +27,13 @@ pub struct PartTold {
     pub count: usize,
 }
 
-// ---- answers as plain numbers
-
-fn tell_refusal(refusal: Refusal) -> Told
-    ensures { λ r. ⌜ r ≡ toldRefusal refusal ⌝ }
-{
-    Told {
-        number: rules::number(refusal) as u32,
-        place: rules::place(refusal),
-    }
-}
-
-fn tell_verdict(verdict: Verdict) -> Told
-    ensures { λ r. ⌜ r ≡ toldVerdict verdict ⌝ }
-{
-    match verdict {
-        Verdict::Fine => Told {
-            number: 0,
-            place: 0,
-        },
-        Verdict::Refused(refusal) => tell_refusal(refusal),
-    }
-}
-
-fn tell_pair(answer: PairAnswer) -> PairTold
-    ensures { λ r. ⌜ r ≡ toldPair answer ⌝ }
-{
-    match answer {
-        PairAnswer::Yes => PairTold {
-            refusal: tell_verdict(Verdict::Fine),
-            yes: true,
-        },
-        PairAnswer::No => PairTold {
-            refusal: tell_verdict(Verdict::Fine),
-            yes: false,
-        },
-        PairAnswer::Refused(refusal) => PairTold {
-            refusal: tell_refusal(refusal),
-            yes: false,
-        },
-    }
-}
-
-pub fn tell_number(answer: NumberAnswer) -> NumberTold
-    ensures { λ r. ⌜ r ≡ toldNumber answer ⌝ }
-{
-    match answer {
-        NumberAnswer::Number(number) => NumberTold {
-            refusal: tell_verdict(Verdict::Fine),
-            number: number as u32,
-        },
-        NumberAnswer::Refused(refusal) => NumberTold {
-            refusal: tell_refusal(refusal),
-            number: 0,
-        },
-    }
-}
-
 // ---- a listing
 
 #[no_mangle]
 pub extern "C" fn ngolishepa_check_listing(n: u16, k: u16, tracks: &[u16], needs: &[u16]) -> Told
     ensures { λ r. ⌜ r ≡ toldVerdict (listingVerdict (listing n k (now (tracks .entry)) (now (needs .entry)))) ⌝ }
 {
-    tell_verdict(listing::check(n, k, tracks, needs))
+    telling::tell_verdict(listing::check(n, k, tracks, needs))
 }
 
 #[no_mangle]
@@ -103,7 +42,7 @@ pub extern "C" fn ngolishepa_part(needs: &[u16], unit: u16) -> PartTold
 {
     let span = listing::part_span(needs, unit);
     PartTold {
-        refusal: tell_verdict(listing::part_verdict(needs, unit)),
+        refusal: telling::tell_verdict(listing::part_verdict(needs, unit)),
         start: span.start,
         count: span.count,
     }
@@ -127,7 +66,7 @@ pub extern "C" fn ngolishepa_build(
     let head = built.head;
     let bits = built.bits;
     let verdict = built.verdict;
-    let refusal = tell_verdict(verdict);
+    let refusal = telling::tell_verdict(verdict);
     BuiltTold {
         head,
         bits,
@@ -144,7 +83,7 @@ pub extern "C" fn ngolishepa_check_index(
 ) -> Told
     ensures { λ r. ⌜ r ≡ toldVerdict (wholeVerdict (index head (now (tracks .entry)) (now (words .entry)) (now (directory .entry)))) ⌝ }
 {
-    tell_verdict(whole::check(head, tracks, words, directory))
+    telling::tell_verdict(whole::check(head, tracks, words, directory))
 }
 
 // ---- the questions
@@ -161,7 +100,7 @@ pub extern "C" fn ngolishepa_needs(
 ) -> PairTold
     ensures { λ r. ⌜ r ≡ toldPair (needsOutcome (index head (now (tracks .entry)) (now (words .entry)) (now (directory .entry))) u v) ⌝ }
 {
-    tell_pair(pair_questions::needs(head, tracks, words, directory, u, v))
+    telling::tell_pair(pair_questions::needs(head, tracks, words, directory, u, v))
 }
 
 // Kind 11.
@@ -176,7 +115,7 @@ pub extern "C" fn ngolishepa_is_step(
 ) -> PairTold
     ensures { λ r. ⌜ r ≡ toldPair (isStepOutcome (index head (now (tracks .entry)) (now (words .entry)) (now (directory .entry))) u v) ⌝ }
 {
-    tell_pair(pair_questions::is_step(head, tracks, words, directory, u, v))
+    telling::tell_pair(pair_questions::is_step(head, tracks, words, directory, u, v))
 }
 
 // Kind 12.
@@ -192,7 +131,7 @@ pub extern "C" fn ngolishepa_needed(
 ) -> NumberTold
     ensures { λ r. ⌜ record { answer = r; list = now (list .exit) } ≡ toldList (neededOutcome (index head (now (tracks .entry)) (now (words .entry)) (now (directory .entry))) u (now (list .entry)) place) ⌝ }
 {
-    tell_number(list_questions::needed(head, tracks, words, directory, u, list, place))
+    telling::tell_number(list_questions::needed(head, tracks, words, directory, u, list, place))
 }
 
 // Kind 13.
@@ -208,7 +147,7 @@ pub extern "C" fn ngolishepa_needing(
 ) -> NumberTold
     ensures { λ r. ⌜ record { answer = r; list = now (list .exit) } ≡ toldList (needingOutcome (index head (now (tracks .entry)) (now (words .entry)) (now (directory .entry))) u (now (list .entry)) place) ⌝ }
 {
-    tell_number(list_questions::needing(head, tracks, words, directory, u, list, place))
+    telling::tell_number(list_questions::needing(head, tracks, words, directory, u, list, place))
 }
 
 // Kind 14.
@@ -224,7 +163,7 @@ pub extern "C" fn ngolishepa_steps(
 ) -> NumberTold
     ensures { λ r. ⌜ record { answer = r; list = now (list .exit) } ≡ toldList (stepsOutcome (index head (now (tracks .entry)) (now (words .entry)) (now (directory .entry))) u (now (list .entry)) place) ⌝ }
 {
-    tell_number(list_questions::steps(head, tracks, words, directory, u, list, place))
+    telling::tell_number(list_questions::steps(head, tracks, words, directory, u, list, place))
 }
 
 // Kind 15.
@@ -240,7 +179,7 @@ pub extern "C" fn ngolishepa_steps_up(
 ) -> NumberTold
     ensures { λ r. ⌜ record { answer = r; list = now (list .exit) } ≡ toldList (stepsUpOutcome (index head (now (tracks .entry)) (now (words .entry)) (now (directory .entry))) u (now (list .entry)) place) ⌝ }
 {
-    tell_number(list_questions::steps_up(head, tracks, words, directory, u, list, place))
+    telling::tell_number(list_questions::steps_up(head, tracks, words, directory, u, list, place))
 }
 
 // Kind 16.
@@ -254,7 +193,7 @@ pub extern "C" fn ngolishepa_stage(
 ) -> NumberTold
     ensures { λ r. ⌜ r ≡ toldNumber (stageOutcome (index head (now (tracks .entry)) (now (words .entry)) (now (directory .entry))) u) ⌝ }
 {
-    tell_number(number_questions::stage(head, tracks, words, directory, u))
+    telling::tell_number(number_questions::stage(head, tracks, words, directory, u))
 }
 
 // Kind 17.
@@ -269,7 +208,7 @@ pub extern "C" fn ngolishepa_unit_low(
 ) -> NumberTold
     ensures { λ r. ⌜ r ≡ toldNumber (unitLowOutcome (index head (now (tracks .entry)) (now (words .entry)) (now (directory .entry))) u q) ⌝ }
 {
-    tell_number(number_questions::unit_low(head, tracks, words, directory, u, q))
+    telling::tell_number(number_questions::unit_low(head, tracks, words, directory, u, q))
 }
 
 // Kind 18.
@@ -284,7 +223,7 @@ pub extern "C" fn ngolishepa_unit_high(
 ) -> NumberTold
     ensures { λ r. ⌜ r ≡ toldNumber (unitHighOutcome (index head (now (tracks .entry)) (now (words .entry)) (now (directory .entry))) u q) ⌝ }
 {
-    tell_number(number_questions::unit_high(head, tracks, words, directory, u, q))
+    telling::tell_number(number_questions::unit_high(head, tracks, words, directory, u, q))
 }
 
 // ---- the version

@@ -1,6 +1,6 @@
 -- `inner::ngolishepa_inner_needing`: the answer and the list, told. Assumes nothing.
 use borrow.Author.Needs.{needs}
-use Rattle.ngolishepa.proofs.Telling.{told-list}
+use Rattle.telling.proofs.Telling.{told-list}
 use Rattle.inner.proofs.ngolishepa_inner_needing.Statement.{statement}
 use Rattle.inner.proofs.ngolishepa_inner_needing.Tie as tie
 

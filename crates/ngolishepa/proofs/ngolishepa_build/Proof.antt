@@ -1,5 +1,5 @@
 -- `ngolishepa::ngolishepa_build`: the build's outcome, told. Assumes nothing.
-use Rattle.ngolishepa.proofs.Telling.{told-build}
+use Rattle.ngolishepa.proofs.Outcomes.{told-build}
 use borrow.Author.Needs.{needs}
 use Rattle.ngolishepa.proofs.ngolishepa_build.Statement.{statement}
 use Rattle.ngolishepa.proofs.ngolishepa_build.Tie as tie

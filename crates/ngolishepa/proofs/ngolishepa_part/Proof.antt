@@ -1,7 +1,7 @@
 -- `ngolishepa::ngolishepa_part`: the verdict and the span of the part, told. Assumes nothing.
 use mathlib.Core.Path.{_≡_, sym, ap, _∙_}
 use Rattle.rules.specs.Told.{toldVerdict}
-use Rattle.ngolishepa.proofs.Telling.{told-part}
+use Rattle.ngolishepa.proofs.Outcomes.{told-part}
 use borrow.Author.Needs.{needs}
 use Rattle.ngolishepa.proofs.ngolishepa_part.Statement.{statement}
 use Rattle.ngolishepa.proofs.ngolishepa_part.Tie as tie

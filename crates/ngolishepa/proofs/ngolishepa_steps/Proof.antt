@@ -1,5 +1,5 @@
 -- `ngolishepa::ngolishepa_steps`: the answer and the list, told. Assumes nothing.
-use Rattle.ngolishepa.proofs.Telling.{told-list}
+use Rattle.telling.proofs.Telling.{told-list}
 use borrow.Author.Needs.{needs}
 use Rattle.ngolishepa.proofs.ngolishepa_steps.Statement.{statement}
 use Rattle.ngolishepa.proofs.ngolishepa_steps.Tie as tie

@@ -1,5 +1,5 @@
 -- `ngolishepa::ngolishepa_steps_up`: the answer and the list, told. Assumes nothing.
-use Rattle.ngolishepa.proofs.Telling.{told-list}
+use Rattle.telling.proofs.Telling.{told-list}
 use borrow.Author.Needs.{needs}
 use Rattle.ngolishepa.proofs.ngolishepa_steps_up.Statement.{statement}
 use Rattle.ngolishepa.proofs.ngolishepa_steps_up.Tie as tie

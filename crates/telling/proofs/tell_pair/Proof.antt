@@ -1,11 +1,11 @@
--- `ngolishepa::tell_pair`: case by case. Assumes nothing.
+-- `telling::tell_pair`: case by case. Assumes nothing.
 use mathlib.Core.Path.{_≡_, sym, ap, _∙_}
 use mathlib.Core.Bool.{true, false}
 use Rattle.rules.specs.Told.{toldPair}
-use Rattle.ngolishepa.proofs.Telling.{pairTold}
+use Rattle.telling.proofs.Telling.{pairTold}
 use borrow.Author.Needs.{needs}
-use Rattle.ngolishepa.proofs.tell_pair.Statement.{statement}
-use Rattle.ngolishepa.proofs.tell_pair.Tie as tie
+use Rattle.telling.proofs.tell_pair.Statement.{statement}
+use Rattle.telling.proofs.tell_pair.Tie as tie
 
 enum-told : tie.Need-enum-told
 enum-told c = search needs

@@ -1,10 +1,10 @@
--- `ngolishepa::tell_number`: case by case. Assumes nothing.
+-- `telling::tell_number`: case by case. Assumes nothing.
 use mathlib.Core.Path.{_≡_, sym, ap, _∙_}
 use Rattle.rules.specs.Told.{toldNumber}
-use Rattle.ngolishepa.proofs.Telling.{numberTold}
+use Rattle.telling.proofs.Telling.{numberTold}
 use borrow.Author.Needs.{needs}
-use Rattle.ngolishepa.proofs.tell_number.Statement.{statement}
-use Rattle.ngolishepa.proofs.tell_number.Tie as tie
+use Rattle.telling.proofs.tell_number.Statement.{statement}
+use Rattle.telling.proofs.tell_number.Tie as tie
 
 enum-known-answer : tie.Need-enum-known-answer
 enum-known-answer c = search needs

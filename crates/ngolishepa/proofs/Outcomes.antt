@@ -1,33 +1,17 @@
--- An answer told as plain numbers is told of the outcome that it is. Assumes nothing.
+-- An answer told in numbers is told of the outcome that it is. Assumes nothing.
 use Prim.Native.Nat.{ℕ}
 use mathlib.Core.Path.{_≡_, ap, _∙_}
-use mathlib.Core.Bool.{Bool}
 use mathlib.Core.List.{List}
-use Rattle.rules.specs.declared.Refusal.{Refusal}
 use Rattle.rules.specs.declared.Built.{Built}
-use Rattle.rules.specs.declared.NumberAnswer.{NumberAnswer}
 use Rattle.rules.specs.declared.Told.{Told}
-use Rattle.rules.specs.declared.PairTold.{PairTold}
-use Rattle.rules.specs.declared.NumberTold.{NumberTold}
-use Rattle.rules.specs.Refusals.{numberOf, placeOf}
-use Rattle.rules.specs.Outcomes.{BuildOutcome, ListOutcome, partVerdict}
-use Rattle.rules.specs.Told.{refused, toldRefusal, toldVerdict, toldNumber, ListTold, toldList}
+use Rattle.rules.specs.Outcomes.{BuildOutcome, partVerdict}
+use Rattle.rules.specs.Told.{toldVerdict}
 use Rattle.build.specs.Ones.{outcome}
-use Rattle.lists.specs.Spans.{listed}
 use Rattle.listing.specs.declared.Span.{Span}
 use Rattle.listing.specs.Spans.{partSpan}
 use Rattle.ngolishepa.specs.declared.PartTold.{PartTold}
 use Rattle.ngolishepa.specs.declared.BuiltTold.{BuiltTold}
 use Rattle.ngolishepa.specs.Told.{BuildTold, toldBuild, toldPart}
-
-abbrev pub pairTold : Told → Bool → PairTold
-pairTold refusal holds = record { refusal = refusal; yes = holds }
-
-abbrev pub numberTold : Told → ℕ → NumberTold
-numberTold refusal number = record { refusal = refusal; number = number }
-
-abbrev pub listTold : NumberTold → List ℕ → ListTold
-listTold answer list = record { answer = answer; list = list }
 
 abbrev partTold : Told → Span → PartTold
 partTold refusal span = record { refusal = refusal; start = span .start; count = span .count }
@@ -40,12 +24,6 @@ builtTold b refusal words directory work =
       directory = directory;
       work = work;
     }
-
-pub told-refusal : {number place : ℕ} (r : Refusal) → number ≡ numberOf r → place ≡ placeOf r → refused number place ≡ toldRefusal r
-told-refusal r e f = rw (e, f)
-
-pub told-list : {r : NumberTold} {a : NumberAnswer} {l : List ℕ} {o : ListOutcome} → r ≡ toldNumber a → listed a l ≡ o → listTold r l ≡ toldList o
-told-list {r} {a} {l} e f = ap (λ x. listTold x l) e ∙ ap toldList f
 
 pub told-part : {r : Told} {s : Span} (l : List ℕ) (u : ℕ) → r ≡ toldVerdict (partVerdict l u) → s ≡ partSpan l u → partTold r s ≡ toldPart l u
 told-part {r} {s} l u e f = ap (λ x. partTold x s) e ∙ ap (partTold (toldVerdict (partVerdict l u))) f

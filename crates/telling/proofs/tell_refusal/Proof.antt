@@ -1,8 +1,8 @@
--- `ngolishepa::tell_refusal`: the number and the place are the refusal's. Assumes nothing.
-use Rattle.ngolishepa.proofs.Telling.{told-refusal}
+-- `telling::tell_refusal`: the number and the place are the refusal's. Assumes nothing.
+use Rattle.telling.proofs.Telling.{told-refusal}
 use borrow.Author.Needs.{needs}
-use Rattle.ngolishepa.proofs.tell_refusal.Statement.{statement}
-use Rattle.ngolishepa.proofs.tell_refusal.Tie as tie
+use Rattle.telling.proofs.tell_refusal.Statement.{statement}
+use Rattle.telling.proofs.tell_refusal.Tie as tie
 
 number-requires : tie.Need-number-requires
 number-requires c κs = search needs

@@ -1,9 +1,9 @@
--- `ngolishepa::tell_verdict`: case by case. Assumes nothing.
+-- `telling::tell_verdict`: case by case. Assumes nothing.
 use mathlib.Core.Path.{_≡_, sym, ap, _∙_}
 use Rattle.rules.specs.Told.{toldVerdict}
 use borrow.Author.Needs.{needs}
-use Rattle.ngolishepa.proofs.tell_verdict.Statement.{statement}
-use Rattle.ngolishepa.proofs.tell_verdict.Tie as tie
+use Rattle.telling.proofs.tell_verdict.Statement.{statement}
+use Rattle.telling.proofs.tell_verdict.Tie as tie
 
 enum-told : tie.Need-enum-told
 enum-told c = search needs
