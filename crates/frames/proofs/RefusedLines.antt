@@ -2,18 +2,20 @@
 -- Assumes nothing.
 use Prim.Native.Nat.{ℕ, zero, suc, _+_, _/_, _%_, _^_, _≤_, _<_}
 use mathlib.Core.Path.{_≡_, refl, sym, ap, _∙_}
-use mathlib.Core.Bool.{cond}
 use mathlib.Core.List.{List, [], _∷_}
 use native.Mathlib.Omega.{arith}
 use native.Mathlib.Nat.{pow-suc}
 use native.Mathlib.Decide.{decLt}
 use lib.ListN.{getD, take, drop}
 use lib.Seq.{take-at, getD-at}
-use lib.Dec.{eqb}
 use borrow.Author.Tests.{lt-ltb, le-ltb}
 use Rattle.rules.specs.declared.Refusal.{Refusal}
 use Rattle.rules.specs.declared.Refusal.the-variants.{OutOfLimits, NoSuchTrack, EmptyTrack, BadPair, PairOrder, ShortArea, UnsoundTrack, BadArgument, NotWhole, ShortList, NoFrame, FrameOrder}
+use Rattle.rules.specs.declared.Verdict.{Verdict}
+use Rattle.rules.specs.declared.Verdict.the-variants.{Fine, Refused}
 use Rattle.rules.specs.Refusals.{numberOf, placeOf}
+use Rattle.rules.specs.Told.{toldRefusal}
+use Rattle.rules.proofs.Tellings.{verdictOf, refusal-back}
 use Rattle.frames.specs.Printed.{hexDigit, hexOf, decimalOf, refusedLine}
 use Rattle.frames.proofs.Lengths.{length-hex}
 
@@ -67,47 +69,24 @@ number-few (ShortList count) = omega arith
 number-few (NoFrame line) = omega arith
 number-few (FrameOrder line) = omega arith
 
--- the refusal of that number and place
-abbrev refusalOf : ℕ → ℕ → Refusal
-refusalOf number place =
-    cond (eqb number 1) OutOfLimits
-    (cond (eqb number 2) (NoSuchTrack place)
-    (cond (eqb number 3) (EmptyTrack place)
-    (cond (eqb number 4) (BadPair place)
-    (cond (eqb number 5) (PairOrder place)
-    (cond (eqb number 6) ShortArea
-    (cond (eqb number 7) (UnsoundTrack place)
-    (cond (eqb number 8) (BadArgument place)
-    (cond (eqb number 9) NotWhole
-    (cond (eqb number 10) (ShortList place)
-    (cond (eqb number 11) (NoFrame place) (FrameOrder place)))))))))))
+-- the refusal that a verdict holds
+abbrev heldIn : Verdict → Refusal → Refusal
+heldIn Fine r = r
+heldIn (Refused r) _ = r
 
-refusal-is : (s : Refusal) → refusalOf (numberOf s) (placeOf s) ≡ s
-refusal-is OutOfLimits = refl
-refusal-is (NoSuchTrack u) = refl
-refusal-is (EmptyTrack q) = refl
-refusal-is (BadPair i) = refl
-refusal-is (PairOrder i) = refl
-refusal-is ShortArea = refl
-refusal-is (UnsoundTrack u) = refl
-refusal-is (BadArgument w) = refl
-refusal-is NotWhole = refl
-refusal-is (ShortList count) = refl
-refusal-is (NoFrame line) = refl
-refusal-is (FrameOrder line) = refl
+-- what a number and a place are told of, is told back
+refusal-is : (s : Refusal) (v : Verdict) → verdictOf (toldRefusal s) ≡ v → s ≡ heldIn v s
+refusal-is s v h = ap (λ (x : Verdict). heldIn x s) (sym (refusal-back s) ∙ h)
 
 pub refusal-1 : (s : Refusal) → numberOf s ≡ 1 → s ≡ OutOfLimits
-refusal-1 s n = sym (refusal-is s) ∙ rw n
+refusal-1 s n = refusal-is s (Refused OutOfLimits) (rw n)
 
 pub refusal-8 : (s : Refusal) → numberOf s ≡ 8 → s ≡ BadArgument (placeOf s)
-refusal-8 s n = sym (refusal-is s) ∙ rw n
-
-pub refusal-9 : (s : Refusal) → numberOf s ≡ 9 → s ≡ NotWhole
-refusal-9 s n = sym (refusal-is s) ∙ rw n
+refusal-8 s n = refusal-is s (Refused (BadArgument (placeOf s))) (rw n)
 
 -- two refusals of one number and one place are the same
 refusal-same : (a b : Refusal) → numberOf a ≡ numberOf b → placeOf a ≡ placeOf b → a ≡ b
-refusal-same a b n p = sym (refusal-is a) ∙ rw (n, p) (refusal-is b)
+refusal-same a b n p = refusal-is a (Refused b) (rw (n, p) (refusal-back b))
 
 module _ (a b : Refusal) (h : refusedLine a ≡ refusedLine b) where
   -- equal printed lines have the same number

@@ -48,14 +48,6 @@ pub over-rest : (area xs : List ℕ) (n : ℕ) → length xs ≡ n → drop n (o
 unfolding over
 over-rest area xs n e = rw e (drop-at xs (drop n area) n e)
 
--- written again from the start, at least as far
-pub over-over : (area xs ys : List ℕ) → length xs ≤ length ys → over (over area xs) ys ≡ over area ys
-unfolding over
-over-over area xs ys h =
-    let e : length xs + (length ys - length xs) ≡ length ys = omega arith in
-    let r = drop-append-add xs (drop (length xs) area) (length ys - length xs) ∙ drop-drop (length ys - length xs) (length xs) area in
-    ap (λ l. ys ++ l) (subst (λ (n : ℕ). drop n (xs ++ drop (length xs) area) ≡ drop n area) e r)
-
 -- ---- parts that were lent
 
 -- a part lent from the front, which comes back as xs, before what was not lent

@@ -26,7 +26,7 @@ use Rattle.rules.specs.Told.{refused, answeredPair, toldRefusal, toldVer
 -- ---- read back
 
 -- no refusal, and the twelve refusals by their numbers
-abbrev verdictOf : Told → Verdict
+abbrev pub verdictOf : Told → Verdict
 verdictOf t =
     getD
     (Fine
@@ -52,7 +52,7 @@ pairAnswerOf t = pairAnswer (verdictOf (t .refusal)) (t .yes)
 abbrev numberAnswerOf : NumberTold → NumberAnswer
 numberAnswerOf t = numberAnswer (verdictOf (t .refusal)) (t .number)
 
-refusal-back : (r : Refusal) → verdictOf (toldRefusal r) ≡ Refused r
+pub refusal-back : (r : Refusal) → verdictOf (toldRefusal r) ≡ Refused r
 refusal-back OutOfLimits = refl
 refusal-back (NoSuchTrack unit) = refl
 refusal-back (EmptyTrack track) = refl
