@@ -22,8 +22,8 @@ use Rattle.rules.specs.Outcomes.{ListOutcome, unitVerdict, trackVerdict, wholeV
 use Rattle.rules.proofs.Ranges.{getD-table}
 use Rattle.rules.proofs.Verdicts.{is-within, not-within, fine-unless, refused-unless}
 use Rattle.known.specs.Asked.{UnitOf}
-use Rattle.frames.specs.Printed.{refusedLine, listLine}
-use Rattle.frames.proofs.Lengths.{length-refused, length-list}
+use Rattle.answers.specs.Printed.{refusedLine, listLine}
+use Rattle.answers.proofs.Lengths.{length-refused, length-list}
 use Rattle.reading.specs.declared.Card.{Card}
 use Rattle.reading.specs.Card.{listPrinted}
 use Rattle.reading.specs.Held.{asked, Ready, stagesOf}

@@ -13,7 +13,7 @@ use borrow.Author.Tests.{ne-eqb, eqb-true}
 use Rattle.rules.specs.Ranges.{over}
 use Rattle.rules.proofs.Verdicts.{is-within, not-within}
 use Rattle.rules.proofs.Ranges.{not-both}
-use Rattle.frames.specs.Printed.{pairLine, numberLine}
+use Rattle.answers.specs.Printed.{pairLine, numberLine}
 use Rattle.reading.specs.declared.Card.{Card}
 use Rattle.reading.specs.Card.{Reading, readIndex, misplaced, answered, questionFrame}
 use Rattle.reading.specs.Held.{areas, readingOf, Fit, Took}

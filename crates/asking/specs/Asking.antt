@@ -12,7 +12,7 @@ use Rattle.rules.specs.Listing.{within}
 use Rattle.rules.specs.Index.{Index}
 use Rattle.rules.specs.Questions.{kind10, kind11, kind12, kind13, kind14, kind15}
 use Rattle.rules.specs.Outcomes.{pairOutcome, stageOutcome, unitLowOutcome, unitHighOutcome}
-use Rattle.frames.specs.Printed.{refusedLine, listLine}
+use Rattle.answers.specs.Printed.{refusedLine, listLine}
 use Rattle.reading.specs.declared.Card.{Card}
 use Rattle.reading.specs.declared.Step.{Step}
 use Rattle.reading.specs.Card.{readIndex, listPrinted, questionFrame}

@@ -125,9 +125,9 @@ fn put_answer(answer: NumberAnswer, list: &[u16], out: &mut [u8]) -> usize
     match answer {
         NumberAnswer::Number(count) => {
             let end = count as usize;
-            frames::put_list(out, &list[..end])
+            answers::put_list(out, &list[..end])
         }
-        NumberAnswer::Refused(refusal) => frames::put_refused(out, refusal),
+        NumberAnswer::Refused(refusal) => answers::put_refused(out, refusal),
     }
 }
 
@@ -168,7 +168,7 @@ pub fn question_frame(
         let answer = pair_answer(card, kind == 0x11, a, b, tracks, words, directory);
         return Step {
             card,
-            wrote: frames::put_pair(out, answer),
+            wrote: answers::put_pair(out, answer),
         };
     }
     if kind <= 0x15 {
@@ -181,6 +181,6 @@ pub fn question_frame(
     let answer = number_answer(card, kind, a, b, tracks, words, directory, stages);
     Step {
         card,
-        wrote: frames::put_number(out, answer),
+        wrote: answers::put_number(out, answer),
     }
 }

@@ -19,7 +19,7 @@ use Rattle.rules.proofs.Ranges.{not-both}
 use Rattle.frames.specs.declared.Line.{Line}
 use Rattle.frames.specs.declared.Line.the-variants.{IsFrame, NoFrame}
 use Rattle.frames.specs.Lines.{lineOf}
-use Rattle.frames.specs.Printed.{builtLine, refusedLine}
+use Rattle.answers.specs.Printed.{builtLine, refusedLine}
 use Rattle.frames.proofs.Frames.{line-feed-last}
 use Rattle.reading.specs.declared.Phase.the-variants.{Asking}
 use Rattle.reading.specs.Card.{Reading, Next, listingOf, readIndex, inPhase, refuse, loaded, counted, reads, readLine, unfinished, start}
@@ -29,7 +29,7 @@ use Rattle.card.proofs.LineCases.{EightDigits, FrameWith, Question, ans
 use Rattle.card.proofs.Reached.{Reached, at-start, after-line, stands-in, reached-stands, end-place, line-in-time}
 use Rattle.card.proofs.QuestionRefusals.{BadQuestion, line-8}
 use Rattle.card.proofs.LineRefusals.{line-11, line-counted, line-reads, line-silent, asking-stops, question-goes-on}
-use Rattle.frames.proofs.RefusedLines.{refused-line-tells}
+use Rattle.answers.proofs.RefusedLines.{refused-line-tells}
 
 -- ---- a file read so far
 

@@ -18,7 +18,7 @@ use Rattle.frames.specs.declared.Frame.{Frame}
 use Rattle.frames.specs.declared.Line.{Line}
 use Rattle.frames.specs.declared.Line.the-variants.{IsFrame, NoFrame}
 use Rattle.frames.specs.Lines.{lineOf}
-use Rattle.frames.specs.Printed.{refusedLine}
+use Rattle.answers.specs.Printed.{refusedLine}
 use Rattle.frames.proofs.Frames.{line-short, line-long, line-feed-last}
 use Rattle.reading.specs.declared.Phase.{Phase}
 use Rattle.reading.specs.declared.Phase.the-variants.{Head, Tracks, Needs, Asking, Stopped}

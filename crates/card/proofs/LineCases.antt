@@ -28,7 +28,7 @@ use Rattle.frames.specs.declared.Frame.{Frame}
 use Rattle.frames.specs.declared.Line.{Line}
 use Rattle.frames.specs.declared.Line.the-variants.{IsFrame, NoFrame}
 use Rattle.frames.specs.Lines.{lineOf}
-use Rattle.frames.specs.Printed.{pairLine, numberLine}
+use Rattle.answers.specs.Printed.{pairLine, numberLine}
 use Rattle.reading.specs.declared.Phase.{Phase}
 use Rattle.reading.specs.declared.Phase.the-variants.{Head, Tracks, Needs, Asking, Stopped}
 use Rattle.reading.specs.Card.{Reading, listingOf, readIndex, goOn, refuse, misplaced, headFrame, trackFrame, needFrame, loaded, endFrame, answered, listPrinted, questionFrame, frameInPhase, counted, reads, readLine, unfinished}

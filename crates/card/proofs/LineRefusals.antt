@@ -20,13 +20,13 @@ use Rattle.rules.proofs.Checks.{Fails, passes}
 use Rattle.frames.specs.declared.Frame.{Frame}
 use Rattle.frames.specs.declared.Line.the-variants.{NoFrame}
 use Rattle.frames.specs.Lines.{lineOf}
-use Rattle.frames.specs.Printed.{refusedLine}
-use Rattle.frames.proofs.Lengths.{length-built, length-refused}
+use Rattle.answers.specs.Printed.{refusedLine}
+use Rattle.answers.proofs.Lengths.{length-built, length-refused}
 use Rattle.reading.specs.declared.Phase.{Phase}
 use Rattle.reading.specs.declared.Phase.the-variants.{Head, Tracks, Needs, Asking, Stopped}
 use Rattle.reading.specs.Card.{Reading, Next, listingOf, readIndex, refuse, loaded, answered, counted, reads, readLine, unfinished}
 use Rattle.order.proofs.Turns.{stopped-line, no-frame-line}
-use Rattle.frames.proofs.RefusedLines.{refused-number-tells, refused-line-tells}
+use Rattle.answers.proofs.RefusedLines.{refused-number-tells, refused-line-tells}
 use Rattle.card.proofs.LineCases.{EightDigits, out-of-place-line, past-limits-line, end-line, question-line, line-comes, taken-unfinished, unfinished-reads, FrameWith, endVerdict, answerTo, StopsWith, OutOfPlace, PastLimits, RightEnd, Question, Taken, Comes, head-off, need-8193, head, track, last-track, need, no-frame, out-of-place, past-limits, taken, ended, asked}
 use Rattle.card.proofs.Reached.{stands-in, reached-stands, stands-in-time, line-in-time, end-never, end-not-1, end-place, Stands, Reached, NeedsDue}
 

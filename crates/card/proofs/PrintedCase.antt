@@ -12,7 +12,7 @@ use Rattle.rules.specs.Index.{oneAt, builtBit, builtWords, builtDirectory, buil
 use Rattle.rules.specs.Questions.{kind10By, kind11By, unitsWhere}
 use Rattle.rules.specs.Outcomes.{wholeVerdict, pairOutcome}
 use Rattle.frames.specs.Lines.{digitOf, digits, spelled, numbersOf, lineOf}
-use Rattle.frames.specs.Printed.{hexDigit, hexOf, decimalOf, builtLine, refusedLine, pairLine, unitsOf, listLine}
+use Rattle.answers.specs.Printed.{hexDigit, hexOf, decimalOf, builtLine, refusedLine, pairLine, unitsOf, listLine}
 use Rattle.reading.specs.Card.{refuse, headFrame, trackFrame, needFrame, loaded, endFrame, listPrinted, questionFrame, frameInPhase, readLine}
 use Rattle.card.specs.Files.{firstLine, printedFrom, coursePrints}
 

@@ -31,11 +31,11 @@ use Rattle.rules.proofs.Cases.{FirstBad, argument-never, pair-refused, number-r
 use Rattle.rules.proofs.Tellings as tellings
 use Rattle.rules.proofs.Refusing.{whole-accepts, pair-8, bound-8, unit-8}
 use Rattle.frames.specs.declared.Frame.{Frame}
-use Rattle.frames.specs.Printed.{hexDigit, hexOf, pairLine, numberLine, listLine, refusedLine}
-use Rattle.frames.proofs.Lengths.{length-refused, length-number}
+use Rattle.answers.specs.Printed.{hexDigit, hexOf, pairLine, numberLine, listLine, refusedLine}
+use Rattle.answers.proofs.Lengths.{length-refused, length-number}
 use Rattle.reading.specs.declared.Phase.the-variants.{Asking}
 use Rattle.reading.specs.Card.{Reading, Next, listingOf, readIndex, answered, unitsPrinted, listPrinted, counted, reads, readLine, unfinished}
-use Rattle.frames.proofs.RefusedLines.{refusal-8, refused-number-tells, refused-line-tells}
+use Rattle.answers.proofs.RefusedLines.{refusal-8, refused-number-tells, refused-line-tells}
 use Rattle.card.proofs.LineCases.{EightDigits, FrameWith, Question, answerTo, StopsWith, Comes, no-frame, out-of-place, past-limits, taken, ended, asked, each-kind, line-comes, taken-unfinished}
 use Rattle.card.proofs.Reached.{Reached, QuestionsDue, stands-in, reached-stands}
 use Rattle.card.proofs.LineRefusals.{not-stopped, line-silent, question-goes-on}

@@ -27,7 +27,7 @@ use Rattle.reading.specs.declared.Phase.{Phase}
 use Rattle.reading.specs.declared.Phase.the-variants.{Head, Tracks, Needs, Asking, Stopped}
 use Rattle.reading.specs.Card.{Reading, Next, listingOf, refuse, loaded, counted, reads, readLine, unfinished, start}
 use Rattle.order.proofs.Turns.{stopped-line}
-use Rattle.frames.proofs.RefusedLines.{refusal-1}
+use Rattle.answers.proofs.RefusedLines.{refusal-1}
 use Rattle.card.proofs.LineCases.{EightDigits, line-comes, endVerdict, StopsWith, Taken, Comes, head, track, last-track, need, no-frame, out-of-place, past-limits, taken, ended, asked}
 
 -- ---- what the lines so far have settled

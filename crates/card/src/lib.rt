@@ -78,10 +78,10 @@ pub fn finish(card: Card, rest: &[u8], out: &mut [u8]) -> usize
         return 0;
     }
     if 0 < rest.len() {
-        return frames::put_refused(out, Refusal::NoFrame(card.lines + 1));
+        return answers::put_refused(out, Refusal::NoFrame(card.lines + 1));
     }
     if !reading::is_unfinished(card) {
         return 0;
     }
-    frames::put_refused(out, Refusal::FrameOrder(card.lines + 1))
+    answers::put_refused(out, Refusal::FrameOrder(card.lines + 1))
 }

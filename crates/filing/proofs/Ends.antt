@@ -29,8 +29,8 @@ use Rattle.stages.proofs.Lasts.{length-stages}
 use Rattle.build.specs.Ones.{outcome}
 use Rattle.build.proofs.Ones.{rows-count}
 use Rattle.build.proofs.Outcomes.{room-enough}
-use Rattle.frames.specs.Printed.{builtLine}
-use Rattle.frames.proofs.Lengths.{length-built}
+use Rattle.answers.specs.Printed.{builtLine}
+use Rattle.answers.proofs.Lengths.{length-built}
 use Rattle.reading.specs.declared.Card.{Card}
 use Rattle.reading.specs.declared.Phase.the-variants.{Needs}
 use Rattle.reading.specs.Card.{listingOf, misplaced, refuse, loaded, endFrame, reads}

@@ -8,7 +8,7 @@ ghost use Prim.Native.Nat.{_*_, _≤_, _<_};
 ghost use mathlib.Core.Path.{_≡_};
 ghost use lib.ListN.{length};
 ghost use Rattle.rules.specs.Ranges.{over};
-ghost use Rattle.frames.specs.Printed.{builtLine};
+ghost use Rattle.answers.specs.Printed.{builtLine};
 ghost use Rattle.reading.specs.Held.{loadedCard};
 ghost use Rattle.filing.specs.Filing.{NeedTaken, EndTaken};
 
@@ -38,7 +38,7 @@ fn load(card: Card, lens: [u16; 32], bits: u32, out: &mut [u8]) -> Step
 {
     let k = card.k as usize;
     let row = layout::row_starts(&lens, k);
-    let wrote = frames::put_built(out, bits);
+    let wrote = answers::put_built(out, bits);
     let mut next = reading::in_phase(card, Phase::Asking);
     next.count = (layout::entry(row[k]) + 63) / 64;
     next.lens = lens;

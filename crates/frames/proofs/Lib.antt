@@ -1,6 +1,3 @@
 -- What the proofs of the functions share, and what callers may use.
-pub mod Lengths
-pub mod Digits
 pub mod Frames
 pub mod FrameLines
-pub mod RefusedLines

@@ -1,3 +1,2 @@
--- What a line of a course file says, and how answers are printed.
+-- What a line of a course file says.
 pub mod Lines
-pub mod Printed

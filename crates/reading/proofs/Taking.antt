@@ -9,8 +9,8 @@ use lib.Seq.{length-take-le}
 use Rattle.rules.specs.declared.Refusal.{Refusal}
 use Rattle.rules.specs.Ranges.{over}
 use Rattle.rules.specs.Listing.{pairs}
-use Rattle.frames.specs.Printed.{refusedLine}
-use Rattle.frames.proofs.Lengths.{length-refused}
+use Rattle.answers.specs.Printed.{refusedLine}
+use Rattle.answers.proofs.Lengths.{length-refused}
 use Rattle.reading.specs.declared.Card.{Card}
 use Rattle.reading.specs.declared.Phase.the-variants.{Stopped}
 use Rattle.reading.specs.Card.{goOn, refuse}

@@ -19,7 +19,7 @@ use Rattle.frames.specs.declared.Frame.{Frame}
 use Rattle.frames.specs.declared.Line.{Line}
 use Rattle.frames.specs.declared.Line.the-variants as line
 use Rattle.frames.specs.Lines.{lineOf}
-use Rattle.frames.specs.Printed.{builtLine, refusedLine, pairLine, numberLine, listLine}
+use Rattle.answers.specs.Printed.{builtLine, refusedLine, pairLine, numberLine, listLine}
 use Rattle.reading.specs.declared.Phase.{Phase}
 use Rattle.reading.specs.declared.Phase.the-variants.{Head, Tracks, Needs, Asking, Stopped}
 

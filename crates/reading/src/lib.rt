@@ -109,7 +109,7 @@ pub fn refuse(card: Card, refusal: Refusal, out: &mut [u8]) -> Step
     requires { ⌜ 20 ≤ length (now out) ⌝ }
     ensures { λ r. ⌜ ((a : Areas) → Roomy card a → Took (rule.refuse (readingOf card a) refusal) (now (out .entry)) r a (now (out .exit))) ⌝ }
 {
-    let wrote = frames::put_refused(out, refusal);
+    let wrote = answers::put_refused(out, refusal);
     Step {
         card: in_phase(card, Phase::Stopped),
         wrote,

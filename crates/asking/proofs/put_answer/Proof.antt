@@ -5,7 +5,7 @@ use mathlib.Core.Path.{sym, _∙_}
 use native.Mathlib.Omega.{arith}
 use lib.ListN.{length, take}
 use lib.Seq.{length-take-le}
-use Rattle.frames.proofs.Lengths.{length-list, length-refused}
+use Rattle.answers.proofs.Lengths.{length-list, length-refused}
 use borrow.Author.Needs.{needs}
 use Rattle.asking.proofs.put_answer.Statement.{statement}
 use Rattle.asking.proofs.put_answer.Tie as tie

@@ -3,8 +3,8 @@
 use mathlib.Core.Path.{refl, sym, _∙_}
 use native.Mathlib.Omega.{arith}
 use borrow.Author.Tests.{not-true, not-false}
-use Rattle.frames.specs.Printed.{pairLine, numberLine}
-use Rattle.frames.proofs.Lengths.{length-pair-most, length-number-most}
+use Rattle.answers.specs.Printed.{pairLine, numberLine}
+use Rattle.answers.proofs.Lengths.{length-pair-most, length-number-most}
 use Rattle.reading.specs.Held.{areas, readingOf}
 use Rattle.asking.specs.Asking.{answerLine}
 use Rattle.asking.proofs.Answers.{length-answer-most}

@@ -5,7 +5,7 @@ use mathlib.Core.Path.{refl, sym, _∙_}
 use native.Mathlib.Omega.{arith}
 use borrow.Author.Tests.{not-true, not-false}
 use Rattle.rules.specs.declared.Refusal.the-variants.{NoFrame, FrameOrder}
-use Rattle.frames.proofs.Lengths.{length-refused}
+use Rattle.answers.proofs.Lengths.{length-refused}
 use Rattle.reading.specs.Held.{readingOf}
 use Rattle.rules.proofs.Overs.{over-none}
 use Rattle.card.proofs.Files.{rest-none, rest-stopped, rest-refused}

@@ -8,8 +8,8 @@ use native.Mathlib.Numerals.{add-one}
 use lib.ListN.{length, getD, set, take, drop, take-append-drop}
 use lib.Seq.{drop-cons, drop-at, getD-at, getD-take, length-take-le, set-at, take-all, take-at, take-suc, take-take}
 use Rattle.rules.specs.Ranges.{over}
-use Rattle.frames.specs.Printed.{hexDigit, hexOf, unitsOf}
-use Rattle.frames.proofs.Lengths.{length-hex, length-units}
+use Rattle.answers.specs.Printed.{hexDigit, hexOf, unitsOf}
+use Rattle.answers.proofs.Lengths.{length-hex, length-units}
 use Rattle.rules.proofs.Overs.{over-next}
 
 -- ---- digits

@@ -1,11 +1,11 @@
--- `frames::put_pair`: one of two texts, or the refusal.
+-- `answers::put_pair`: one of two texts, or the refusal.
 -- Assumes nothing.
 use mathlib.Core.Path.{refl, sym, _∙_}
-use Rattle.frames.specs.Printed.{pairLine}
-use Rattle.frames.proofs.Lengths.{length-refused}
+use Rattle.answers.specs.Printed.{pairLine}
+use Rattle.answers.proofs.Lengths.{length-refused}
 use borrow.Author.Needs.{needs}
-use Rattle.frames.proofs.put_pair.Statement.{statement}
-use Rattle.frames.proofs.put_pair.Tie as tie
+use Rattle.answers.proofs.put_pair.Statement.{statement}
+use Rattle.answers.proofs.put_pair.Tie as tie
 
 enum-told : tie.Need-enum-told
 enum-told c = search needs

@@ -1,14 +1,14 @@
--- `frames::put_refused`: the text with the number in it, the digits of the place after it, and a line feed.
+-- `answers::put_refused`: the text with the number in it, the digits of the place after it, and a line feed.
 -- Assumes nothing.
 use mathlib.Core.Path.{refl, ap, _∙_}
 use native.Mathlib.Omega.{arith}
 use lib.ListN.{length}
 use Rattle.rules.proofs.Overs.{length-over, part-back-next}
-use Rattle.frames.specs.Printed.{hexOf, decimalOf, refusedLine}
-use Rattle.frames.proofs.Lengths.{length-hex, length-refused}
+use Rattle.answers.specs.Printed.{hexOf, decimalOf, refusedLine}
+use Rattle.answers.proofs.Lengths.{length-hex, length-refused}
 use borrow.Author.Needs.{needs}
-use Rattle.frames.proofs.put_refused.Statement.{statement}
-use Rattle.frames.proofs.put_refused.Tie as tie
+use Rattle.answers.proofs.put_refused.Statement.{statement}
+use Rattle.answers.proofs.put_refused.Tie as tie
 
 number-requires : tie.Need-number-requires
 number-requires c κs = search needs

@@ -1,15 +1,15 @@
--- `frames::put_list`: the count, the units after it, and a line feed.
+-- `answers::put_list`: the count, the units after it, and a line feed.
 -- Assumes nothing.
 use Prim.Native.Nat.{_+_, _*_}
 use mathlib.Core.Path.{ap, _∙_}
 use native.Mathlib.Omega.{arith}
 use lib.ListN.{length}
 use Rattle.rules.proofs.Overs.{length-over, part-back-next}
-use Rattle.frames.specs.Printed.{hexOf, unitsOf, listLine}
-use Rattle.frames.proofs.Lengths.{length-hex, length-units, length-list}
+use Rattle.answers.specs.Printed.{hexOf, unitsOf, listLine}
+use Rattle.answers.proofs.Lengths.{length-hex, length-units, length-list}
 use borrow.Author.Needs.{needs}
-use Rattle.frames.proofs.put_list.Statement.{statement}
-use Rattle.frames.proofs.put_list.Tie as tie
+use Rattle.answers.proofs.put_list.Statement.{statement}
+use Rattle.answers.proofs.put_list.Tie as tie
 
 cast-put-hex : tie.Need-cast-put-hex
 cast-put-hex c = search needs

@@ -1,4 +1,4 @@
--- `frames::put_hex`: from the last digit to the first. Up to i the area is as it was, from i on as it is to be,
+-- `answers::put_hex`: from the last digit to the first. Up to i the area is as it was, from i on as it is to be,
 -- and the digits still to be written are those of y. Assumes nothing.
 use Prim.Native.Nat.{_-_, _≤_, suc}
 use mathlib.Core.Path.{_≡_, refl, sym, _∙_}
@@ -7,11 +7,11 @@ use native.Mathlib.Omega.{arith}
 use lib.ListN.{length, take, drop, length-set}
 use Rattle.rules.specs.Ranges.{over}
 use Rattle.rules.proofs.Overs.{length-over, getD-over}
-use Rattle.frames.specs.Printed.{hexOf}
-use Rattle.frames.proofs.Lengths.{length-hex}
-use Rattle.frames.proofs.Digits.{hex-last, hex-before, hex-whole, back-none, back-next}
-use Rattle.frames.proofs.put_hex.Statement.{statement}
-use Rattle.frames.proofs.put_hex.Tie as tie
+use Rattle.answers.specs.Printed.{hexOf}
+use Rattle.answers.proofs.Lengths.{length-hex}
+use Rattle.answers.proofs.Digits.{hex-last, hex-before, hex-whole, back-none, back-next}
+use Rattle.answers.proofs.put_hex.Statement.{statement}
+use Rattle.answers.proofs.put_hex.Tie as tie
 
 abbrev Inv-loop : tie.InvT-loop
 Inv-loop out₀ w x y₀ i₀ out y i =

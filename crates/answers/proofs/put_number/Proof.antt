@@ -1,13 +1,13 @@
--- `frames::put_number`: four digits and a line feed, or the refusal.
+-- `answers::put_number`: four digits and a line feed, or the refusal.
 -- Assumes nothing.
 use mathlib.Core.Path.{sym, _∙_}
 use native.Mathlib.Omega.{arith}
-use Rattle.frames.specs.Printed.{hexOf, numberLine}
-use Rattle.frames.proofs.Lengths.{length-hex, length-number, length-refused}
+use Rattle.answers.specs.Printed.{hexOf, numberLine}
+use Rattle.answers.proofs.Lengths.{length-hex, length-number, length-refused}
 use Rattle.rules.proofs.Overs.{over-next}
 use borrow.Author.Needs.{needs}
-use Rattle.frames.proofs.put_number.Statement.{statement}
-use Rattle.frames.proofs.put_number.Tie as tie
+use Rattle.answers.proofs.put_number.Statement.{statement}
+use Rattle.answers.proofs.put_number.Tie as tie
 
 enum-known-answer : tie.Need-enum-known-answer
 enum-known-answer c = search needs

@@ -16,8 +16,8 @@ use Rattle.rules.specs.declared.Verdict.the-variants.{Fine, Refused}
 use Rattle.rules.specs.Refusals.{numberOf, placeOf}
 use Rattle.rules.specs.Told.{toldRefusal}
 use Rattle.rules.proofs.Tellings.{verdictOf, refusal-back}
-use Rattle.frames.specs.Printed.{hexDigit, hexOf, decimalOf, refusedLine}
-use Rattle.frames.proofs.Lengths.{length-hex}
+use Rattle.answers.specs.Printed.{hexDigit, hexOf, decimalOf, refusedLine}
+use Rattle.answers.proofs.Lengths.{length-hex}
 
 -- ---- digits
 

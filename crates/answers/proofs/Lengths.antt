@@ -11,7 +11,7 @@ use Rattle.rules.specs.declared.PairAnswer.{PairAnswer}
 use Rattle.rules.specs.declared.PairAnswer.the-variants as pair
 use Rattle.rules.specs.declared.NumberAnswer.{NumberAnswer}
 use Rattle.rules.specs.declared.NumberAnswer.the-variants as number
-use Rattle.frames.specs.Printed.{hexOf, decimalOf, builtLine, refusedLine, pairLine, numberLine, unitsOf, listLine}
+use Rattle.answers.specs.Printed.{hexOf, decimalOf, builtLine, refusedLine, pairLine, numberLine, unitsOf, listLine}
 
 pub length-hex : (w x : ℕ) → length (hexOf w x) ≡ w
 unfolding hexOf

@@ -1,10 +1,10 @@
--- `frames::hex_digit`: the branch is the definition's.
+-- `answers::hex_digit`: the branch is the definition's.
 -- Assumes nothing.
 use borrow.Author.Needs.{needs}
 use borrow.Author.Tests.{lt-ltb, le-ltb}
-use Rattle.frames.specs.Printed.{hexDigit}
-use Rattle.frames.proofs.hex_digit.Statement.{statement}
-use Rattle.frames.proofs.hex_digit.Tie as tie
+use Rattle.answers.specs.Printed.{hexDigit}
+use Rattle.answers.proofs.hex_digit.Statement.{statement}
+use Rattle.answers.proofs.hex_digit.Tie as tie
 
 cast-result : tie.Need-cast-result
 cast-result c = search needs

@@ -1,4 +1,4 @@
--- `frames::put_text`: after i turns the first i bytes are written.
+-- `answers::put_text`: after i turns the first i bytes are written.
 -- Assumes nothing.
 use Prim.Native.Nat.{_-_, _≤_}
 use mathlib.Core.Path.{_≡_, refl, _∙_}
@@ -8,8 +8,8 @@ use lib.ListN.{length, take, length-set}
 use lib.Seq.{length-take-le, take-length, take-suc}
 use Rattle.rules.specs.Ranges.{over}
 use Rattle.rules.proofs.Overs.{over-none, over-next}
-use Rattle.frames.proofs.put_text.Statement.{statement}
-use Rattle.frames.proofs.put_text.Tie as tie
+use Rattle.answers.proofs.put_text.Statement.{statement}
+use Rattle.answers.proofs.put_text.Tie as tie
 
 abbrev Inv-loop : tie.InvT-loop
 Inv-loop out₀ text i₀ out i = (i ≤ length text) × (length out ≡ length out₀) × (out ≡ over out₀ (take i text))

@@ -1,4 +1,4 @@
--- `frames::put_units`: after i turns the first i units are written.
+-- `answers::put_units`: after i turns the first i units are written.
 -- Assumes nothing.
 use Prim.Native.Nat.{_+_, _-_, _*_, _≤_}
 use mathlib.Core.Path.{_≡_, refl, sym, ap, _∙_}
@@ -8,11 +8,11 @@ use lib.ListN.{length, getD, set, take, length-append, length-take, length-drop,
 use lib.Seq.{length-take-le, take-length}
 use Rattle.rules.specs.Ranges.{over}
 use Rattle.rules.proofs.Overs.{length-over, over-none, part-back}
-use Rattle.frames.specs.Printed.{unitsOf, hexOf}
-use Rattle.frames.proofs.Lengths.{length-units}
-use Rattle.frames.proofs.Digits.{text-none, text-next, text-space, length-before}
-use Rattle.frames.proofs.put_units.Statement.{statement}
-use Rattle.frames.proofs.put_units.Tie as tie
+use Rattle.answers.specs.Printed.{unitsOf, hexOf}
+use Rattle.answers.proofs.Lengths.{length-units}
+use Rattle.answers.proofs.Digits.{text-none, text-next, text-space, length-before}
+use Rattle.answers.proofs.put_units.Statement.{statement}
+use Rattle.answers.proofs.put_units.Tie as tie
 
 abbrev Inv-loop : tie.InvT-loop
 Inv-loop out₀ units i₀ out i = (i ≤ length units) × (length out ≡ length out₀) × (out ≡ over out₀ (unitsOf (take i units)))

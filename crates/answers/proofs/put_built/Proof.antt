@@ -1,14 +1,14 @@
--- `frames::put_built`: the text, the digits after it, and a line feed.
+-- `answers::put_built`: the text, the digits after it, and a line feed.
 -- Assumes nothing.
 use mathlib.Core.Path.{refl, ap, _∙_}
 use native.Mathlib.Omega.{arith}
 use lib.ListN.{length}
 use Rattle.rules.proofs.Overs.{length-over, part-back-next}
-use Rattle.frames.specs.Printed.{hexOf, builtLine}
-use Rattle.frames.proofs.Lengths.{length-hex, length-built}
+use Rattle.answers.specs.Printed.{hexOf, builtLine}
+use Rattle.answers.proofs.Lengths.{length-hex, length-built}
 use borrow.Author.Needs.{needs}
-use Rattle.frames.proofs.put_built.Statement.{statement}
-use Rattle.frames.proofs.put_built.Tie as tie
+use Rattle.answers.proofs.put_built.Statement.{statement}
+use Rattle.answers.proofs.put_built.Tie as tie
 
 slice-aggregate-put-text : tie.Need-slice-aggregate-put-text
 slice-aggregate-put-text c = search needs
