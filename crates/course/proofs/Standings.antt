@@ -20,7 +20,7 @@ use Rattle.feeding.proofs.Feeds.{pieces-in}
 use Rattle.feeding.proofs.Lines.{fed-lines, feed-takes-line}
 use Rattle.course.specs.declared.Feeding.{Feeding}
 use Rattle.course.specs.declared.Waiting.{Waiting}
-use Rattle.course.specs.Waiting.{part, Refilled, Standing, standing, readingIn, waitingIn, fedWith, FedOn, ReadFailed, Turned, fresh, Reached, here, turned}
+use Rattle.course.specs.Waiting.{part, Refilled, Standing, standing, readingIn, waitingIn, fedWith, FedOn, ReadFailed, Turned, fresh, LedTo, no-turn, turned}
 use Rattle.course.proofs.Refills.{part-long, part-rest}
 
 -- ---- the bytes that the card takes
@@ -152,7 +152,7 @@ module _ {s s′ : Standing} (turn : Turned s s′) (end-in : s .feeding .end �
 
 -- what stands after some turns: the card reads where more is to be read
 pub record Serving (s₀ s : Standing) : Type 0 where
-  pub reached : Reached s₀ s
+  pub reached : LedTo s₀ s
   pub fit : Fit (s .feeding .card) (s .areas)
   pub start-in : s .feeding .from ≤ s .feeding .end
   pub end-in : s .feeding .end ≤ length (s .bytes)
@@ -190,7 +190,7 @@ module _ {s₀ s s′ : Standing} (serving : Serving s₀ s) (more : s .feeding 
 pub serving-fresh : {bytes out : List ℕ} {a : Areas} → Room a → Serving (standing fresh bytes a out) (standing fresh bytes a out)
 serving-fresh room =
     record {
-      reached = here;
+      reached = no-turn;
       fit = record {
         room = record { lines-few = zero-le; pairs-few = zero-le; units-few = zero-le; areas-room = room };
         lines-left = λ h. zero-le;

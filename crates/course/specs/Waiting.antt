@@ -95,9 +95,9 @@ abbrev pub fresh : Feeding
 fresh = record { card = freshCard; from = 0; end = 0; more = true; failed = false }
 
 -- what turns lead to; there is a turn only where more is to be read
-pub data Reached (s : Standing) : Standing → Type 0 where
-  here : Reached s s
-  turned : {t u : Standing} → Reached s t → t .feeding .more ≡ true → Turned t u → Reached s u
+pub data LedTo (s : Standing) : Standing → Type 0 where
+  no-turn : LedTo s s
+  turned : {t u : Standing} → LedTo s t → t .feeding .more ≡ true → Turned t u → LedTo s u
 
 -- what came in a turn, what was printed, and whether the file had ended
 abbrev pub cameBy : {s s′ : Standing} → Turned s s′ → List ℕ
@@ -110,14 +110,14 @@ abbrev pub endedBy : {s s′ : Standing} → Turned s s′ → Bool
 endedBy turn = ⊎-elim (λ fed. fed .ended) (λ failed. false) (turn .fed)
 
 -- and in all of them
-unfoldable pub cameIn : {s t : Standing} → Reached s t → List ℕ
-cameIn here = []
+unfoldable pub cameIn : {s t : Standing} → LedTo s t → List ℕ
+cameIn no-turn = []
 cameIn (turned before more turn) = cameIn before ++ cameBy turn
 
-unfoldable pub printedIn : {s t : Standing} → Reached s t → List ℕ
-printedIn here = []
+unfoldable pub printedIn : {s t : Standing} → LedTo s t → List ℕ
+printedIn no-turn = []
 printedIn (turned before more turn) = printedIn before ++ printedBy turn
 
-unfoldable pub endedIn : {s t : Standing} → Reached s t → Bool
-endedIn here = false
+unfoldable pub endedIn : {s t : Standing} → LedTo s t → Bool
+endedIn no-turn = false
 endedIn (turned before more turn) = endedBy turn

@@ -9,7 +9,7 @@ ghost use mathlib.Core.Bool.{false};
 ghost use lib.ListN.{length, take};
 ghost use Rattle.rules.specs.Ranges.{over};
 ghost use Rattle.reading.specs.Held.{Room, lent, entered, left, Fit};
-ghost use Rattle.course.specs.Waiting.{part, filledBy, Refilled, standing, Turned, fresh, Reached};
+ghost use Rattle.course.specs.Waiting.{part, filledBy, Refilled, standing, Turned, fresh, LedTo};
 
 // A card, the bytes that wait in the block, whether more is to be read, and whether a read or a write has failed.
 struct Feeding {
@@ -163,7 +163,7 @@ fn serve(
     requires { ⌜ Room (lent tracks needs words directory work list) ⌝ }
     requires { ⌜ (11 ≤ length (now bytes)) × (5145 ≤ length (now out)) ⌝ }
     ensures { λ r. ⌜ r .more ≡ false ⌝ }
-    ensures { λ r. ⌜ Reached (standing fresh (now (bytes .entry)) (entered tracks needs words directory work list) (now (out .entry))) (standing r (now (bytes .exit)) (left tracks needs words directory work list) (now (out .exit))) ⌝ }
+    ensures { λ r. ⌜ LedTo (standing fresh (now (bytes .entry)) (entered tracks needs words directory work list) (now (out .entry))) (standing r (now (bytes .exit)) (left tracks needs words directory work list) (now (out .exit))) ⌝ }
 {
     let mut feeding = Feeding {
         card: reading::start(),
