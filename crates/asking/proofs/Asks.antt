@@ -25,15 +25,15 @@ use Rattle.asking.proofs.Answers.{cond-same}
 -- ---- which kinds are questions
 
 -- what a question says of its kind and its second number
-pub record Question (kind b : ℕ) : Type 0 where
+pub record QuestionKind (kind b : ℕ) : Type 0 where
   pub from : 0x10 ≤ kind
   pub to : kind ≤ 0x18
   pub filler : 0x12 ≤ kind → kind ≤ 0x16 → b ≡ 0
 
-pub question : (kind b : ℕ) → isQuestion kind b ≡ true → Question kind b
+pub question : (kind b : ℕ) → isQuestion kind b ≡ true → QuestionKind kind b
 question kind b h = go (decLt kind 0x10) (decLt 0x18 kind)
   where
-    go : Dec (kind < 0x10) → Dec (0x18 < kind) → Question kind b
+    go : Dec (kind < 0x10) → Dec (0x18 < kind) → QuestionKind kind b
     go (yes l) d = absurd (let h′ : false ≡ true = rw (not-within 0x10 0x18 kind (inl l)) at h in not-both h′ refl)
     go (no n) (yes l) = absurd (let h′ : false ≡ true = rw (not-within 0x10 0x18 kind (inr l)) at h in not-both h′ refl)
     go (no n) (no m) =

@@ -1,4 +1,4 @@
 -- What the proofs of the functions share.
 pub mod Refills
-pub mod Standings
+pub mod Betweens
 pub mod Served

@@ -13,10 +13,10 @@ use Rattle.reading.specs.Held.{Areas}
 use Rattle.card.specs.Files.{coursePrints}
 use Rattle.feeding.specs.Feeding.{Turns, last, more as one-more}
 use Rattle.feeding.proofs.Blocks.{blocks-print}
-use Rattle.course.specs.Waiting.{Standing, standing, readingIn, waitingIn, fedWith, FedOn, ReadFailed, Turned, fresh, LedTo, no-turn, turned, cameBy, printedBy, endedBy, cameIn, printedIn, endedIn}
-use Rattle.course.proofs.Standings.{goes-on}
+use Rattle.course.specs.Waiting.{Between, between, readingIn, waitingIn, fedWith, FedOn, ReadFailed, Turned, fresh, LedTo, no-turn, turned, cameBy, printedBy, endedBy, cameIn, printedIn, endedIn}
+use Rattle.course.proofs.Betweens.{goes-on}
 
-abbrev Left : ℕ → Standing → List ℕ → List ℕ → Type 0
+abbrev Left : ℕ → Between → List ℕ → List ℕ → Type 0
 Left room s = Turns room (readingIn s) (waitingIn s)
 
 and-yes : (b : Bool) → (b && true) ≡ b
@@ -24,11 +24,11 @@ and-yes true = refl
 and-yes false = refl
 
 -- what waits lies in the block, and the output area keeps its length
-block-kept : {s t : Standing} → LedTo s t → s .feeding .end ≤ length (s .bytes) → t .feeding .end ≤ length (t .bytes)
+block-kept : {s t : Between} → LedTo s t → s .feeding .end ≤ length (s .bytes) → t .feeding .end ≤ length (t .bytes)
 block-kept no-turn h = h
 block-kept (turned before more turn) h = turn .end-in
 
-room-kept : {s t : Standing} → LedTo s t → length (t .out) ≡ length (s .out)
+room-kept : {s t : Between} → LedTo s t → length (t .out) ≡ length (s .out)
 room-kept no-turn = refl
 room-kept (turned before more turn) = turn .out-long ∙ room-kept before
 
@@ -36,7 +36,7 @@ in-room : {room room′ : ℕ} {r : Reading} {waiting file printed : List ℕ} �
     → Turns room′ r waiting file printed
 in-room {r = r} {waiting} {file} {printed} e h = subst (λ (n : ℕ). Turns n r waiting file printed) e h
 
-module _ {s s′ : Standing} (turn : Turned s s′) where
+module _ {s s′ : Between} (turn : Turned s s′) where
   -- a turn after which more is read, and then the rest
   module _ (end-in : s .feeding .end ≤ length (s .bytes)) (on : s′ .feeding .more ≡ true) {file printed : List ℕ}
       (rest : Left (length (s .out)) s′ file printed) where
@@ -73,7 +73,7 @@ module _ {s s′ : Standing} (turn : Turned s s′) where
         go (inr failed) end = absurd (not-both (failed .fails) fine)
 
 -- turns after which more is read, and then the rest
-turns-more : {s t : Standing} (path : LedTo s t) → s .feeding .end ≤ length (s .bytes) → t .feeding .more ≡ true → {file printed : List ℕ}
+turns-more : {s t : Between} (path : LedTo s t) → s .feeding .end ≤ length (s .bytes) → t .feeding .more ≡ true → {file printed : List ℕ}
     → Left (length (s .out)) t file printed → Left (length (s .out)) s (cameIn path ++ file) (printedIn path ++ printed)
 unfolding cameIn printedIn
 turns-more no-turn end-in on rest = rest
@@ -81,7 +81,7 @@ turns-more (turned before more turn) end-in on {file} {printed} rest =
     rw (append-assoc, append-assoc)
     (turns-more before end-in more (in-room (room-kept before) (turn-more turn (block-kept before end-in) on (in-room (sym (room-kept before)) rest))))
 
-served-turns : {bytes out : List ℕ} {a : Areas} {t : Standing} (path : LedTo (standing fresh bytes a out) t)
+served-turns : {bytes out : List ℕ} {a : Areas} {t : Between} (path : LedTo (between fresh bytes a out) t)
     → t .feeding .more ≡ false → t .feeding .failed ≡ false → (unread : List ℕ) → (endedIn path ≡ true → unread ≡ [])
     → Turns (length out) start [] (cameIn path ++ unread) (printedIn path)
 unfolding cameIn printedIn endedIn
@@ -90,7 +90,7 @@ served-turns (turned before more turn) off fine unread end =
     rw append-assoc (turns-more before zero-le more (in-room (room-kept before) (turn-last turn off fine unread end)))
 
 -- what came and what was never read are the file; where it had ended there is nothing that was not read
-pub served-prints : {bytes out : List ℕ} {a : Areas} {t : Standing} (path : LedTo (standing fresh bytes a out) t)
+pub served-prints : {bytes out : List ℕ} {a : Areas} {t : Between} (path : LedTo (between fresh bytes a out) t)
     → t .feeding .more ≡ false → t .feeding .failed ≡ false → (unread : List ℕ) → (endedIn path ≡ true → unread ≡ [])
     → printedIn path ≡ coursePrints (cameIn path ++ unread)
 served-prints path off fine unread end = blocks-print (served-turns path off fine unread end)

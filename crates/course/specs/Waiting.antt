@@ -42,28 +42,28 @@ pub record Refilled (bytes : List ℕ) (from end : ℕ) (waiting : Waiting) (byt
 -- ---- a turn
 
 -- what stands between two turns
-pub record Standing : Type 0 where
+pub record Between : Type 0 where
   pub feeding : Feeding
   pub bytes : List ℕ
   pub areas : Areas
   pub out : List ℕ
 
-abbrev pub standing : Feeding → List ℕ → Areas → List ℕ → Standing
-standing feeding bytes a out = record { feeding = feeding; bytes = bytes; areas = a; out = out }
+abbrev pub between : Feeding → List ℕ → Areas → List ℕ → Between
+between feeding bytes a out = record { feeding = feeding; bytes = bytes; areas = a; out = out }
 
-abbrev pub readingIn : Standing → Reading
+abbrev pub readingIn : Between → Reading
 readingIn s = readingOf (s .feeding .card) (s .areas)
 
-abbrev pub waitingIn : Standing → List ℕ
+abbrev pub waitingIn : Between → List ℕ
 waitingIn s = part (s .bytes) (s .feeding .from) (s .feeding .end)
 
 -- the outcome of feeding the card with what waits and what came
-abbrev pub fedWith : Standing → List ℕ → Bool → FeedOutcome
+abbrev pub fedWith : Between → List ℕ → Bool → FeedOutcome
 fedWith s came ended = feedOutcome (readingIn s) (waitingIn s ++ came) ended (length (s .out))
 
 -- the card was fed with what waited and what came: its reading, what still waits and what is printed are the outcome's; more is read exactly
 -- where the outcome says so and nothing failed
-pub record FedOn (s s′ : Standing) : Type 0 where
+pub record FedOn (s s′ : Between) : Type 0 where
   pub came : List ℕ
   pub ended : Bool
   pub came-so : Came (s .feeding .end - s .feeding .from) came ended
@@ -73,7 +73,7 @@ pub record FedOn (s s′ : Standing) : Type 0 where
   pub more-is : s′ .feeding .more ≡ (fedWith s came ended .more && not (s′ .feeding .failed))
 
 -- no whole line waited, and the read failed: nothing is fed or printed, and nothing more is read
-pub record ReadFailed (s s′ : Standing) : Type 0 where
+pub record ReadFailed (s s′ : Between) : Type 0 where
   pub few : s .feeding .end - s .feeding .from < 11
   pub reading-is : readingIn s′ ≡ readingIn s
   pub out-is : s′ .out ≡ s .out
@@ -81,7 +81,7 @@ pub record ReadFailed (s s′ : Standing) : Type 0 where
   pub ends : s′ .feeding .more ≡ false
 
 -- a turn: the card was fed, or the read failed. The card is fit, and what waits lies in the block
-pub record Turned (s s′ : Standing) : Type 0 where
+pub record Turned (s s′ : Between) : Type 0 where
   pub fed : FedOn s s′ ⊎ ReadFailed s s′
   pub fit : Fit (s′ .feeding .card) (s′ .areas)
   pub start-in : s′ .feeding .from ≤ s′ .feeding .end
@@ -95,29 +95,29 @@ abbrev pub fresh : Feeding
 fresh = record { card = freshCard; from = 0; end = 0; more = true; failed = false }
 
 -- what turns lead to; there is a turn only where more is to be read
-pub data LedTo (s : Standing) : Standing → Type 0 where
+pub data LedTo (s : Between) : Between → Type 0 where
   no-turn : LedTo s s
-  turned : {t u : Standing} → LedTo s t → t .feeding .more ≡ true → Turned t u → LedTo s u
+  turned : {t u : Between} → LedTo s t → t .feeding .more ≡ true → Turned t u → LedTo s u
 
 -- what came in a turn, what was printed, and whether the file had ended
-abbrev pub cameBy : {s s′ : Standing} → Turned s s′ → List ℕ
+abbrev pub cameBy : {s s′ : Between} → Turned s s′ → List ℕ
 cameBy turn = ⊎-elim (λ fed. fed .came) (λ failed. []) (turn .fed)
 
-abbrev pub printedBy : {s s′ : Standing} → Turned s s′ → List ℕ
+abbrev pub printedBy : {s s′ : Between} → Turned s s′ → List ℕ
 printedBy {s} turn = ⊎-elim (λ fed. fedWith s (fed .came) (fed .ended) .printed) (λ failed. []) (turn .fed)
 
-abbrev pub endedBy : {s s′ : Standing} → Turned s s′ → Bool
+abbrev pub endedBy : {s s′ : Between} → Turned s s′ → Bool
 endedBy turn = ⊎-elim (λ fed. fed .ended) (λ failed. false) (turn .fed)
 
 -- and in all of them
-unfoldable pub cameIn : {s t : Standing} → LedTo s t → List ℕ
+unfoldable pub cameIn : {s t : Between} → LedTo s t → List ℕ
 cameIn no-turn = []
 cameIn (turned before more turn) = cameIn before ++ cameBy turn
 
-unfoldable pub printedIn : {s t : Standing} → LedTo s t → List ℕ
+unfoldable pub printedIn : {s t : Between} → LedTo s t → List ℕ
 printedIn no-turn = []
 printedIn (turned before more turn) = printedIn before ++ printedBy turn
 
-unfoldable pub endedIn : {s t : Standing} → LedTo s t → Bool
+unfoldable pub endedIn : {s t : Between} → LedTo s t → Bool
 endedIn no-turn = false
 endedIn (turned before more turn) = endedBy turn

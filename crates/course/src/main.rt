@@ -9,7 +9,7 @@ ghost use mathlib.Core.Bool.{false};
 ghost use lib.ListN.{length, take};
 ghost use Rattle.rules.specs.Ranges.{over};
 ghost use Rattle.reading.specs.Held.{Room, lent, entered, left, Fit};
-ghost use Rattle.course.specs.Waiting.{part, filledBy, Refilled, standing, Turned, fresh, LedTo};
+ghost use Rattle.course.specs.Waiting.{part, filledBy, Refilled, between, Turned, fresh, LedTo};
 
 // A card, the bytes that wait in the block, whether more is to be read, and whether a read or a write has failed.
 struct Feeding {
@@ -112,7 +112,7 @@ fn turn(
 ) -> Feeding
     requires { ⌜ Fit (feeding .card) (lent tracks needs words directory work list) ⌝ }
     requires { ⌜ (feeding .from ≤ feeding .end) × (feeding .end ≤ length (now bytes)) × (11 ≤ length (now bytes)) × (5145 ≤ length (now out)) ⌝ }
-    ensures { λ r. ⌜ Turned (standing feeding (now (bytes .entry)) (entered tracks needs words directory work list) (now (out .entry))) (standing r (now (bytes .exit)) (left tracks needs words directory work list) (now (out .exit))) ⌝ }
+    ensures { λ r. ⌜ Turned (between feeding (now (bytes .entry)) (entered tracks needs words directory work list) (now (out .entry))) (between r (now (bytes .exit)) (left tracks needs words directory work list) (now (out .exit))) ⌝ }
 {
     let waiting = refill(bytes, feeding.from, feeding.end);
     let from = waiting.from;
@@ -163,7 +163,7 @@ fn serve(
     requires { ⌜ Room (lent tracks needs words directory work list) ⌝ }
     requires { ⌜ (11 ≤ length (now bytes)) × (5145 ≤ length (now out)) ⌝ }
     ensures { λ r. ⌜ r .more ≡ false ⌝ }
-    ensures { λ r. ⌜ LedTo (standing fresh (now (bytes .entry)) (entered tracks needs words directory work list) (now (out .entry))) (standing r (now (bytes .exit)) (left tracks needs words directory work list) (now (out .exit))) ⌝ }
+    ensures { λ r. ⌜ LedTo (between fresh (now (bytes .entry)) (entered tracks needs words directory work list) (now (out .entry))) (between r (now (bytes .exit)) (left tracks needs words directory work list) (now (out .exit))) ⌝ }
 {
     let mut feeding = Feeding {
         card: reading::start(),

@@ -8,7 +8,7 @@ use Rattle.answers.proofs.Lengths.{length-pair-most, length-number-most}
 use Rattle.reading.specs.Held.{areas, readingOf}
 use Rattle.asking.specs.Asking.{answerLine}
 use Rattle.asking.proofs.Answers.{length-answer-most}
-use Rattle.asking.proofs.Asks.{Question, question, question-misplaced, question-pair, question-list, question-number, took-answer}
+use Rattle.asking.proofs.Asks.{QuestionKind, question, question-misplaced, question-pair, question-list, question-number, took-answer}
 use borrow.Author.Needs.{needs}
 use Rattle.asking.proofs.question_frame.Statement.{statement}
 use Rattle.asking.proofs.question_frame.Tie as tie
@@ -28,7 +28,7 @@ returns c = λ ts needs ws ds work h x.
     rw (question-misplaced (readingOf (s .card) (areas ts needs ws ds work (s .list .now))) (s .kind) (s .a) (s .b) (sym (c .before .before .before .before .before .is-question .ensures) ∙ not-true _ (c .before .before .before .before .if1 .taken)))
     (c .before .before .misplaced .ensures _ (h .room))
 
-asks : (c : tie.Else1) → let s = c .before .before .before .before .before .before .before .before .args in Question (s .kind) (s .b)
+asks : (c : tie.Else1) → let s = c .before .before .before .before .before .before .before .before .args in QuestionKind (s .kind) (s .b)
 asks c = let s = c .before .before .before .before .before .before .before .before .args in question (s .kind) (s .b) (sym (c .before .is-question .ensures) ∙ not-false _ (c .if1 .left))
 
 pair-answer-requires : tie.Need-pair-answer-requires

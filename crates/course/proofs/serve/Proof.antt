@@ -6,20 +6,20 @@ use native.Mathlib.Omega.{arith}
 use borrow.Author.Needs.{needs}
 use lib.ListN.{length}
 use Rattle.reading.specs.Held.{areas}
-use Rattle.course.specs.Waiting.{standing, fresh}
-use Rattle.course.proofs.Standings.{Serving, toGo, serving-fresh, serving-next, nearer}
+use Rattle.course.specs.Waiting.{between, fresh}
+use Rattle.course.proofs.Betweens.{Serving, toGo, serving-fresh, serving-next, nearer}
 use Rattle.course.proofs.serve.Statement.{statement}
 use Rattle.course.proofs.serve.Tie as tie
 
 abbrev Inv-loop : tie.InvT-loop
 Inv-loop bytes₀ tracks₀ needs₀ words₀ directory₀ work₀ list₀ out₀ feeding₀ bytes tracks needs words directory work list out feeding =
-    Serving (standing fresh bytes₀ (areas tracks₀ needs₀ words₀ directory₀ work₀ list₀) out₀) (standing feeding bytes (areas tracks needs words directory work list) out)
+    Serving (between fresh bytes₀ (areas tracks₀ needs₀ words₀ directory₀ work₀ list₀) out₀) (between feeding bytes (areas tracks needs words directory work list) out)
     × ((11 ≤ length bytes₀) × (5145 ≤ length out₀) × (length bytes ≡ length bytes₀) × (length tracks ≡ length tracks₀) × (length needs ≡ length needs₀) × (length words ≡ length words₀)
     × (length directory ≡ length directory₀) × (length work ≡ length work₀) × (length list ≡ length list₀) × (length out ≡ length out₀))
 
 abbrev μ-loop : tie.MeasureT-loop
 μ-loop bytes₀ tracks₀ needs₀ words₀ directory₀ work₀ list₀ out₀ feeding₀ bytes tracks needs words directory work list out feeding =
-    toGo (standing feeding bytes (areas tracks needs words directory work list) out)
+    toGo (between feeding bytes (areas tracks needs words directory work list) out)
 
 start-requires : tie.Need-start-requires Inv-loop μ-loop
 start-requires c κs = search needs

@@ -6,7 +6,7 @@ use mathlib.Core.Logic.{inr, ⊎-elim}
 use native.Mathlib.Omega.{arith}
 use borrow.Author.Tests.{not-true, not-false}
 use Rattle.feeding.proofs.Feeds.{over-in}
-use Rattle.course.proofs.Standings.{used-in, turned-fed}
+use Rattle.course.proofs.Betweens.{used-in, turned-fed}
 use borrow.Author.Needs.{needs}
 use Rattle.course.proofs.turn.Statement.{statement}
 use Rattle.course.proofs.turn.Tie as tie

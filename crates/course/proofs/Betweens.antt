@@ -20,7 +20,7 @@ use Rattle.feeding.proofs.Feeds.{pieces-in}
 use Rattle.feeding.proofs.Lines.{fed-lines, feed-takes-line}
 use Rattle.course.specs.declared.Feeding.{Feeding}
 use Rattle.course.specs.declared.Waiting.{Waiting}
-use Rattle.course.specs.Waiting.{part, Refilled, Standing, standing, readingIn, waitingIn, fedWith, FedOn, ReadFailed, Turned, fresh, LedTo, no-turn, turned}
+use Rattle.course.specs.Waiting.{part, Refilled, Between, between, readingIn, waitingIn, fedWith, FedOn, ReadFailed, Turned, fresh, LedTo, no-turn, turned}
 use Rattle.course.proofs.Refills.{part-long, part-rest}
 
 -- ---- the bytes that the card takes
@@ -50,8 +50,8 @@ module _ (feeding : Feeding) (a : Areas) {bytes bytes′ out out′ : List ℕ} 
       sym (part-rest bytes′ (waiting .from) (waiting .end) (given .used)) ∙ ap (λ (n : ℕ). drop n waits) (took .used-is)
 
   pub turned-fed : length out′ ≡ length out → waiting .well ≡ true → (written more : Bool) → more ≡ (given .more && written)
-      → Turned (standing feeding bytes a out)
-      (standing (record { card = given .card; from = waiting .from + given .used; end = waiting .end; more = more; failed = not written }) bytes′ a′ out′)
+      → Turned (between feeding bytes a out)
+      (between (record { card = given .card; from = waiting .from + given .used; end = waiting .end; more = more; failed = not written }) bytes′ a′ out′)
   turned-fed out-long well written more is =
       record {
         fed = inl (record {
@@ -77,10 +77,10 @@ unfolding isLast
 last-short rest ended few e = rw (lt-ltb (length rest) 11 few, e)
 
 -- how far a card is: the lines that it has read, and the bytes that wait
-abbrev pub reach : Standing → ℕ
+abbrev pub reach : Between → ℕ
 reach s = 12 * s .feeding .card .lines + (s .feeding .end - s .feeding .from)
 
-module _ {s s′ : Standing} (turn : Turned s s′) (end-in : s .feeding .end ≤ length (s .bytes)) (more : s′ .feeding .more ≡ true) where
+module _ {s s′ : Between} (turn : Turned s s′) (end-in : s .feeding .end ≤ length (s .bytes)) (more : s′ .feeding .more ≡ true) where
   module _ (f : FedOn s s′) where
     abbrev before : List ℕ
     before = waitingIn s ++ f .came
@@ -151,7 +151,7 @@ module _ {s s′ : Standing} (turn : Turned s s′) (end-in : s .feeding .end �
 -- ---- turn after turn
 
 -- what stands after some turns: the card reads where more is to be read
-pub record Serving (s₀ s : Standing) : Type 0 where
+pub record Serving (s₀ s : Between) : Type 0 where
   pub reached : LedTo s₀ s
   pub fit : Fit (s .feeding .card) (s .areas)
   pub start-in : s .feeding .from ≤ s .feeding .end
@@ -159,10 +159,10 @@ pub record Serving (s₀ s : Standing) : Type 0 where
   pub on : s .feeding .more ≡ true → reads (s .feeding .card .phase) ≡ true
 
 -- how much further a card can come: 65,536 lines, and as many bytes as the block has
-abbrev pub toGo : Standing → ℕ
+abbrev pub toGo : Between → ℕ
 toGo s = cond (s .feeding .more) (suc (12 * 65536 + length (s .bytes) - reach s)) 0
 
-module _ {s₀ s s′ : Standing} (serving : Serving s₀ s) (more : s .feeding .more ≡ true) (turn : Turned s s′) (room : 5145 ≤ length (s .out)) where
+module _ {s₀ s s′ : Between} (serving : Serving s₀ s) (more : s .feeding .more ≡ true) (turn : Turned s s′) (room : 5145 ≤ length (s .out)) where
   moves : s′ .feeding .more ≡ true → (reach s < reach s′) × (reads (s′ .feeding .card .phase) ≡ true)
   moves h = turn-moves turn (serving .end-in) h (serving .on more) room
 
@@ -187,7 +187,7 @@ module _ {s₀ s s′ : Standing} (serving : Serving s₀ s) (more : s .feeding 
 
 -- ---- before the first turn
 
-pub serving-fresh : {bytes out : List ℕ} {a : Areas} → Room a → Serving (standing fresh bytes a out) (standing fresh bytes a out)
+pub serving-fresh : {bytes out : List ℕ} {a : Areas} → Room a → Serving (between fresh bytes a out) (between fresh bytes a out)
 serving-fresh room =
     record {
       reached = no-turn;
