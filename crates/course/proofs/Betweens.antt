@@ -19,9 +19,10 @@ use Rattle.feeding.specs.Feeding.{isLast, FeedOutcome, feedOutcome, FedTo}
 use Rattle.feeding.proofs.Feeds.{pieces-in}
 use Rattle.feeding.proofs.Lines.{fed-lines, feed-takes-line}
 use Rattle.course.specs.declared.Feeding.{Feeding}
-use Rattle.course.specs.declared.Waiting.{Waiting}
-use Rattle.course.specs.Waiting.{part, Refilled, Between, between, readingIn, waitingIn, fedWith, FedOn, ReadFailed, Turned, fresh, LedTo, no-turn, turned}
-use Rattle.course.proofs.Refills.{part-long, part-rest}
+use Rattle.blocks.specs.declared.Waiting.{Waiting}
+use Rattle.blocks.specs.Blocks.{part, Refilled}
+use Rattle.course.specs.Turns.{Between, between, readingIn, waitingIn, fedWith, FedOn, ReadFailed, Turned, fresh, LedTo, no-turn, turned}
+use Rattle.blocks.proofs.Refills.{part-long, part-rest}
 
 -- ---- the bytes that the card takes
 

@@ -1,4 +1,3 @@
--- What the proofs of the functions share.
-pub mod Refills
+-- What the proofs of the functions share, and what the program prints.
 pub mod Betweens
 pub mod Served

@@ -13,7 +13,7 @@ use Rattle.reading.specs.Held.{Areas}
 use Rattle.card.specs.Files.{coursePrints}
 use Rattle.feeding.specs.Feeding.{Turns, last, more as one-more}
 use Rattle.feeding.proofs.Blocks.{blocks-print}
-use Rattle.course.specs.Waiting.{Between, between, readingIn, waitingIn, fedWith, FedOn, ReadFailed, Turned, fresh, LedTo, no-turn, turned, cameBy, printedBy, endedBy, cameIn, printedIn, endedIn}
+use Rattle.course.specs.Turns.{Between, between, readingIn, waitingIn, fedWith, FedOn, ReadFailed, Turned, fresh, LedTo, no-turn, turned, cameBy, printedBy, endedBy, cameIn, printedIn, endedIn}
 use Rattle.course.proofs.Betweens.{goes-on}
 
 abbrev Left : ℕ → Between → List ℕ → List ℕ → Type 0

@@ -1,2 +1,2 @@
--- What the program's shell leaves between two turns.
-pub mod Waiting
+-- What a turn of the program settles.
+pub mod Turns

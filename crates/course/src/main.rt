@@ -1,15 +1,13 @@
 // The course program: a course file on standard input, its answers on standard output. What is done with the bytes is in `feeding`; here
 // they are read, handed on, and what is printed is written.
-use libc::STDIN_FILENO;
 use libc::STDOUT_FILENO;
 use reading::Card;
 ghost use Prim.Native.Nat.{_≤_};
 ghost use mathlib.Core.Path.{_≡_};
 ghost use mathlib.Core.Bool.{false};
-ghost use lib.ListN.{length, take};
-ghost use Rattle.rules.specs.Ranges.{over};
+ghost use lib.ListN.{length};
 ghost use Rattle.reading.specs.Held.{Room, lent, entered, left, Fit};
-ghost use Rattle.course.specs.Waiting.{part, filledBy, Refilled, between, Turned, fresh, LedTo};
+ghost use Rattle.course.specs.Turns.{between, Turned, fresh, LedTo};
 
 // A card, the bytes that wait in the block, whether more is to be read, and whether a read or a write has failed.
 struct Feeding {
@@ -18,76 +16,6 @@ struct Feeding {
     end: usize,
     more: bool,
     failed: bool,
-}
-
-// Moves the bytes from one place up to another to the front.
-fn keep(bytes: &mut [u8], from: usize, end: usize)
-    requires { ⌜ (from ≤ end) × (end ≤ length (now bytes)) ⌝ }
-    ensures { λ r. ⌜ now (bytes .exit) ≡ over (now (bytes .entry)) (part (now (bytes .entry)) from end) ⌝ }
-{
-    let mut i: usize = 0;
-    while from + i < end {
-        bytes[i] = bytes[from + i];
-        i += 1;
-    }
-}
-
-// What a read brought: whether it went well, and up to where the bytes are filled.
-struct Filled {
-    well: bool,
-    end: usize,
-}
-
-// What a read's answer says of the bytes: below 0 it failed, else so many came behind those that are there.
-fn after_read(got: isize, bytes: &[u8], have: usize) -> Filled
-    requires { ⌜ have ≤ length (now bytes) ⌝ }
-    ensures { λ r. ⌜ r ≡ filledBy got have (length (now (bytes .entry))) ⌝ }
-{
-    Filled {
-        well: 0 <= got,
-        end: have + io::count(got, &bytes[have..]),
-    }
-}
-
-// One read, behind the bytes that are there.
-fn fill(bytes: &mut [u8], have: usize) -> Filled
-    requires { ⌜ have ≤ length (now bytes) ⌝ }
-    ensures { λ r. ⌜ (have ≤ r .end) × (r .end ≤ length (now (bytes .exit))) × (take have (now (bytes .exit)) ≡ take have (now (bytes .entry))) ⌝ }
-{
-    let got = libc::read(STDIN_FILENO, &mut bytes[have..]);
-    after_read(got, bytes, have)
-}
-
-// The bytes that wait, whether the file has ended with them, and whether the read went well.
-struct Waiting {
-    from: usize,
-    end: usize,
-    ended: bool,
-    well: bool,
-}
-
-// Reads on where no whole line waits.
-fn refill(bytes: &mut [u8], from: usize, end: usize) -> Waiting
-    requires { ⌜ (from ≤ end) × (end ≤ length (now bytes)) × (11 ≤ length (now bytes)) ⌝ }
-    ensures { λ r. ⌜ Refilled (now (bytes .entry)) from end r (now (bytes .exit)) ⌝ }
-{
-    if 11 <= end - from {
-        return Waiting {
-            from,
-            end,
-            ended: false,
-            well: true,
-        };
-    }
-    keep(bytes, from, end);
-    let have = end - from;
-    let filled = fill(bytes, have);
-    Waiting {
-        from: 0,
-        end: filled.end,
-        ended: filled.end == have,
-        well: filled.well,
-    }
 }
 
 // What is printed is written; whether all of it could be.
@@ -114,7 +42,7 @@ fn turn(
     requires { ⌜ (feeding .from ≤ feeding .end) × (feeding .end ≤ length (now bytes)) × (11 ≤ length (now bytes)) × (5145 ≤ length (now out)) ⌝ }
     ensures { λ r. ⌜ Turned (between feeding (now (bytes .entry)) (entered tracks needs words directory work list) (now (out .entry))) (between r (now (bytes .exit)) (left tracks needs words directory work list) (now (out .exit))) ⌝ }
 {
-    let waiting = refill(bytes, feeding.from, feeding.end);
+    let waiting = blocks::refill(bytes, feeding.from, feeding.end);
     let from = waiting.from;
     let end = waiting.end;
     let card = feeding.card;

@@ -6,7 +6,7 @@ use native.Mathlib.Omega.{arith}
 use borrow.Author.Needs.{needs}
 use lib.ListN.{length}
 use Rattle.reading.specs.Held.{areas}
-use Rattle.course.specs.Waiting.{between, fresh}
+use Rattle.course.specs.Turns.{between, fresh}
 use Rattle.course.proofs.Betweens.{Serving, toGo, serving-fresh, serving-next, nearer}
 use Rattle.course.proofs.serve.Statement.{statement}
 use Rattle.course.proofs.serve.Tie as tie

@@ -1,13 +1,13 @@
--- `course::after_read`: `io::count` counts no byte where the answer is below 0.
+-- `blocks::after_read`: `io::count` counts no byte where the answer is below 0.
 -- Assumes nothing.
 use denote.Ref.{now}
 use mir.Facts.{toZ-ofZ}
 use native.Mathlib.Omega.{arith}
 use lib.ListN.{length}
-use Rattle.course.proofs.Refills.{part-long, read-by}
+use Rattle.blocks.proofs.Refills.{part-long, read-by}
 use borrow.Author.Needs.{needs}
-use Rattle.course.proofs.after_read.Statement.{statement}
-use Rattle.course.proofs.after_read.Tie as tie
+use Rattle.blocks.proofs.after_read.Statement.{statement}
+use Rattle.blocks.proofs.after_read.Tie as tie
 
 sub-count : tie.Need-sub-count
 sub-count c = search needs

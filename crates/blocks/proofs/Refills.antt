@@ -16,7 +16,7 @@ use borrow.Author.Tests.{eqb-true, eqb-false, le-leb}
 use Rattle.io.specs.Counts.{clamped}
 use Rattle.rules.specs.Ranges.{over}
 use Rattle.rules.proofs.Overs.{over-next, over-rest}
-use Rattle.course.specs.Waiting.{part, filledBy, Refilled}
+use Rattle.blocks.specs.Blocks.{part, filledBy, Refilled}
 
 -- ---- bytes moved to the front
 

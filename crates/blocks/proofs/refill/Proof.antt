@@ -1,14 +1,14 @@
--- `course::refill`: where no whole line waits, what waits is moved to the front, and what is read comes behind it.
+-- `blocks::refill`: where no whole line waits, what waits is moved to the front, and what is read comes behind it.
 -- Assumes nothing.
 use Prim.Native.Nat.{_-_}
 use mathlib.Core.Path.{_∙_, ap}
 use native.Mathlib.Omega.{arith}
 use lib.ListN.{take}
 use denote.Ref.{now}
-use Rattle.course.proofs.Refills.{refilled-none, refilled-some}
+use Rattle.blocks.proofs.Refills.{refilled-none, refilled-some}
 use borrow.Author.Needs.{needs}
-use Rattle.course.proofs.refill.Statement.{statement}
-use Rattle.course.proofs.refill.Tie as tie
+use Rattle.blocks.proofs.refill.Statement.{statement}
+use Rattle.blocks.proofs.refill.Tie as tie
 
 sub-if1 : tie.Need-sub-if1
 sub-if1 c = search needs

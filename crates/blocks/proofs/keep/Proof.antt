@@ -1,4 +1,4 @@
--- `course::keep`: the bytes moved so far stand at the front, and the others are as they were.
+-- `blocks::keep`: the bytes moved so far stand at the front, and the others are as they were.
 -- Assumes nothing.
 use Prim.Native.Nat.{_+_, _-_, _≤_, _<_}
 use mathlib.Core.Path.{_≡_, refl, sym, _∙_}
@@ -8,9 +8,9 @@ use lib.ListN.{length, take, drop}
 use denote.Ref.{now}
 use Rattle.rules.specs.Ranges.{over}
 use Rattle.rules.proofs.Overs.{over-none}
-use Rattle.course.proofs.Refills.{moved-next}
-use Rattle.course.proofs.keep.Statement.{statement}
-use Rattle.course.proofs.keep.Tie as tie
+use Rattle.blocks.proofs.Refills.{moved-next}
+use Rattle.blocks.proofs.keep.Statement.{statement}
+use Rattle.blocks.proofs.keep.Tie as tie
 
 abbrev Inv-loop : tie.InvT-loop
 Inv-loop bytes₀ from end i₀ bytes i = (bytes ≡ over bytes₀ (take i (drop from bytes₀))) × (length bytes ≡ length bytes₀) × (end ≤ length bytes₀) × (from + i ≤ end)

@@ -1,45 +1,16 @@
--- The bytes that wait between two turns: which they are after a read, and after they were fed to the card.
-use Prim.Native.Nat.{ℕ, _+_, _-_, _≤_, _<_, min}
+-- What a turn of the program settles: what came, what the card made of it, and which bytes wait; and what turns lead to.
+use Prim.Native.Nat.{ℕ, _-_, _≤_, _<_}
 use mathlib.Core.Path.{_≡_}
 use mathlib.Core.Bool.{Bool, true, false, not, _&&_}
 use mathlib.Core.List.{List, [], _++_}
 use mathlib.Core.Logic.{_⊎_, ⊎-elim}
-use lib.IntN.{ℤ, pos, negsuc}
-use lib.ListN.{length, take, drop}
+use lib.ListN.{length}
 use Rattle.rules.specs.Ranges.{over}
 use Rattle.reading.specs.Card.{Reading}
 use Rattle.reading.specs.Held.{Areas, readingOf, freshCard, Fit}
+use Rattle.blocks.specs.Blocks.{part, Came}
 use Rattle.feeding.specs.Feeding.{FeedOutcome, feedOutcome}
 use Rattle.course.specs.declared.Feeding.{Feeding}
-use Rattle.course.specs.declared.Filled.{Filled}
-use Rattle.course.specs.declared.Waiting.{Waiting}
-
--- the bytes from one place up to another
-abbrev pub part : List ℕ → ℕ → ℕ → List ℕ
-part bytes from end = take (end - from) (drop from bytes)
-
--- ---- a read
-
--- what a read's answer says of a block of so many bytes, of which the first are there: below 0 it failed, else so many came behind them
-unfoldable pub filledBy : ℤ → ℕ → ℕ → Filled
-filledBy (pos got) have size = record { well = true; end = have + min got (size - have) }
-filledBy (negsuc got) have size = record { well = false; end = have }
-
--- what comes behind the bytes that wait: nothing where a whole line waits or the file has ended, else one byte at least
-pub record Came (waiting : ℕ) (came : List ℕ) (ended : Bool) : Type 0 where
-  pub ended-is : ended ≡ true → (waiting < 11) × (came ≡ [])
-  pub brought : ended ≡ false → ((11 ≤ waiting) × (came ≡ [])) ⊎ (1 ≤ length came)
-
--- some bytes came behind those that wait; nothing is read, and so no read fails, where a whole line waits
-pub record Refilled (bytes : List ℕ) (from end : ℕ) (waiting : Waiting) (bytes′ : List ℕ) : Type 0 where
-  pub came : List ℕ
-  pub came-so : waiting .well ≡ true → Came (end - from) came (waiting .ended)
-  pub failed-so : waiting .well ≡ false → end - from < 11
-  pub waits : part bytes′ (waiting .from) (waiting .end) ≡ part bytes from end ++ came
-  pub start-in : waiting .from ≤ waiting .end
-  pub end-in : waiting .end ≤ length bytes′
-
--- ---- a turn
 
 -- what stands between two turns
 pub record Between : Type 0 where

@@ -1,12 +1,12 @@
--- `course::fill`: only what stands behind the bytes that are there is lent to the read.
+-- `blocks::fill`: only what stands behind the bytes that are there is lent to the read.
 -- Assumes nothing.
 use lib.ListN.{length, take}
 use lib.Seq.{length-take-le, take-at}
 use denote.Ref.{now}
-use Rattle.course.proofs.Refills.{filled-past, filled-in}
+use Rattle.blocks.proofs.Refills.{filled-past, filled-in}
 use borrow.Author.Needs.{needs}
-use Rattle.course.proofs.fill.Statement.{statement}
-use Rattle.course.proofs.fill.Tie as tie
+use Rattle.blocks.proofs.fill.Statement.{statement}
+use Rattle.blocks.proofs.fill.Tie as tie
 
 sub-read : tie.Need-sub-read
 sub-read c = search needs

@@ -1,0 +1,2 @@
+-- Which bytes wait in a block, before and after a read.
+pub mod Blocks
