@@ -1,0 +1,17 @@
+-- `whole::lengths_true`: after q turns it is known whether the first q lengths are right. Assumes nothing.
+use Prim.Native.Nat.{ℕ, ◌+◌, ◌-◌, ◌≤◌, ◌<◌}
+use mathlib.Core.Path.{◌≡◌, refl, sym, ap, ◌∙◌}
+use mathlib.Core.Bool.{Bool, true, false, ◌&&◌, and-true}
+use mathlib.Core.Logic.{⊎_elim}
+use native.Mathlib.Omega.{arith}
+use Rattle.rules.specs.Ranges.{every}
+use Rattle.rules.specs.Index.{lengths_true}
+use Rattle.rules.proofs.Ranges.{every_all, every-next, every-not}
+use Rattle.whole.proofs.Lengths.{length_true, length_right, length_miscounted, length_misused}
+use Rattle.whole.proofs.lengths_true.Given as goal
+
+abbrev pub invariant-loop-q : goal.invariant-loop-q
+invariant-loop-q l = (l.q ≤ 32) × (l.right ≡ every (length_true l.lens l.k l.tracks) l.q)
+
+abbrev pub decreases-loop-q : goal.decreases-loop-q
+decreases-loop-q l = 32 - l.q
