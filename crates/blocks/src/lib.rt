@@ -18,7 +18,7 @@ fn keep(bytes: &mut [u8], from: usize, end: usize)
 }
 
 // What a read brought: whether it went well, and up to where the bytes are filled.
-#[derive(Drop)]
+#[derive(Clone, Copy)]
 struct Filled {
     well: bool,
     end: usize,
@@ -45,7 +45,7 @@ fn fill(bytes: &mut [u8], have: usize) -> Filled
 }
 
 // The bytes that wait, whether the file has ended with them, and whether the read went well.
-#[derive(Drop)]
+#[derive(Clone, Copy)]
 pub struct Waiting {
     pub from: usize,
     pub end: usize,

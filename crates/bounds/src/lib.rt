@@ -8,7 +8,7 @@ ghost use Rattle.layout.specs.Starts.{row_starts};
 ghost use Rattle.bounds.specs.Known.{Known, Standing, none_reaches, reaches_none};
 
 // A unit's track and its position there.
-#[derive(Drop)]
+#[derive(Clone, Copy)]
 pub struct Place {
     pub track: usize,
     pub at: usize,

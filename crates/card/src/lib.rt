@@ -9,7 +9,7 @@ use reading::Card;
 use rules::Refusal;
 
 // A card after some lines: how many bytes they took, and how many were printed for them.
-#[derive(Drop)]
+#[derive(Clone, Copy)]
 pub struct Progress {
     pub card: Card,
     pub used: usize,

@@ -8,7 +8,7 @@ use libc::STDOUT_FILENO;
 use reading::Card;
 
 // A card, the bytes that wait in the block, whether more is to be read, and whether a read or a write has failed.
-#[derive(Drop)]
+#[derive(Clone, Copy)]
 struct Feeding {
     card: Card,
     from: usize,

@@ -7,7 +7,7 @@ ghost use Rattle.feeding.specs.Feeding.{has_line_feed, is_last, FedTo};
 use reading::Card;
 
 // A card after the bytes that waited: how many of them it took, how many were printed, and whether more is to be read.
-#[derive(Drop)]
+#[derive(Clone, Copy)]
 pub struct Fed {
     pub card: Card,
     pub used: usize,

@@ -3,7 +3,7 @@ ghost use Rattle.std.specs.Prelude.{◌≤◌, ◌≡◌, length};
 ghost use Rattle.frames.specs.Lines.{digit_of, four_of, numbers_of, line_of};
 
 // A frame: two digits of kind, and two numbers.
-#[derive(Drop)]
+#[derive(Clone, Copy)]
 pub struct Frame {
     pub kind: u8,
     pub a: u16,
@@ -11,14 +11,14 @@ pub struct Frame {
 }
 
 // What a line is.
-#[derive(Drop)]
+#[derive(Clone, Copy)]
 pub enum Line {
     IsFrame(Frame),
     NoFrame,
 }
 
 // Eight digits read as two numbers, or not digits.
-#[derive(Drop)]
+#[derive(Clone, Copy)]
 pub enum Numbers {
     Two(u16, u16),
     NotDigits,

@@ -13,7 +13,7 @@ use rules::NumberAnswer;
 // ---- the steps among the units at the lows or the highs
 
 // In each track the positions from one to another, none where the first is greater.
-#[derive(Drop)]
+#[derive(Clone, Copy)]
 pub struct Spans {
     pub from: [u16; 32],
     pub to: [u16; 32],

@@ -63,7 +63,7 @@ fn first_from(needs: &[u16], u: u16) -> usize
 }
 
 // Where a part of a list stands.
-#[derive(Drop)]
+#[derive(Clone, Copy)]
 pub struct Span {
     pub start: usize,
     pub count: usize,

@@ -11,7 +11,7 @@ use rules::{Head, NumberTold, PairTold, Told};
 
 // What a build answers.
 #[repr(C)]
-#[derive(Drop)]
+#[derive(Clone, Copy)]
 pub struct BuiltTold {
     pub head: Head,
     pub bits: u32,
@@ -20,7 +20,7 @@ pub struct BuiltTold {
 
 // Where the part of a need list stands; both 0 where it is refused.
 #[repr(C)]
-#[derive(Drop)]
+#[derive(Clone, Copy)]
 pub struct PartTold {
     pub refusal: Told,
     pub start: usize,

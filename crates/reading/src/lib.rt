@@ -6,7 +6,7 @@ ghost use Rattle.reading.specs.Held.{Areas, reading_of, fresh_card, card_in, Roo
 use rules::Refusal;
 
 // Where in the order of frames a file stands.
-#[derive(Drop)]
+#[derive(Clone, Copy)]
 pub enum Phase {
     // 01 comes next
     Head,
@@ -22,7 +22,7 @@ pub enum Phase {
 
 // What has been read. The listing itself lies in the lent areas: `units` tracks and `pairs` needs; and once it is built, `count` words, and
 // the stages of the units at the start of the work area, which the build no longer needs.
-#[derive(Drop)]
+#[derive(Clone, Copy)]
 pub struct Card {
     pub phase: Phase,
     pub lines: u32,
@@ -36,7 +36,7 @@ pub struct Card {
 }
 
 // A card after a line, and how many bytes were printed for it.
-#[derive(Drop)]
+#[derive(Clone, Copy)]
 pub struct Step {
     pub card: Card,
     pub wrote: usize,

@@ -73,7 +73,7 @@ pub fn fill_rows(tracks: &[u16], needs: &[u16], work: &mut [u16], k: usize)
 }
 
 // What unit i + 1 needs in its own track p, from its pairs, which end before pair j.
-#[derive(Drop)]
+#[derive(Clone, Copy)]
 pub struct Own {
     pub low: u16,
     pub pair: usize,

@@ -12,7 +12,7 @@ pub const MAX_NEEDS: usize = 8192;
 pub const MAX_LINES: u32 = 65535;
 
 // The greatest course that the box takes.
-#[derive(Drop)]
+#[derive(Clone, Copy)]
 pub struct Limits {
     pub units: u16,
     pub tracks: u16,
@@ -41,7 +41,7 @@ pub fn greater(a: u16, b: u16) -> u16
 
 // The head of an index: the length of each track, 0 beyond the last, and the counts of units and tracks. C reads it as it lies.
 #[repr(C)]
-#[derive(Drop)]
+#[derive(Clone, Copy)]
 pub struct Head {
     pub lens: [u16; 32],
     pub n: u16,
@@ -49,7 +49,7 @@ pub struct Head {
 }
 
 // Why a call was refused. What a case holds is the place.
-#[derive(Drop)]
+#[derive(Clone, Copy)]
 pub enum Refusal {
     // 1: a count outside the limits, or a list of the wrong length
     OutOfLimits,
@@ -78,7 +78,7 @@ pub enum Refusal {
 }
 
 // Fine, or the first refusal.
-#[derive(Drop)]
+#[derive(Clone, Copy)]
 pub enum Verdict {
     Fine,
     Refused(Refusal),
@@ -125,7 +125,7 @@ pub fn place(r: Refusal) -> u32
 }
 
 // What a build answers beside the areas: the head and the bits that the vectors take, both 0 where it is refused.
-#[derive(Drop)]
+#[derive(Clone, Copy)]
 pub struct Built {
     pub head: Head,
     pub bits: u32,
@@ -133,7 +133,7 @@ pub struct Built {
 }
 
 // The answer to a question about a pair of units.
-#[derive(Drop)]
+#[derive(Clone, Copy)]
 pub enum PairAnswer {
     Yes,
     No,
@@ -141,7 +141,7 @@ pub enum PairAnswer {
 }
 
 // A count, a stage or a unit; or why there is none.
-#[derive(Drop)]
+#[derive(Clone, Copy)]
 pub enum NumberAnswer {
     Number(u16),
     Refused(Refusal),
@@ -151,7 +151,7 @@ pub enum NumberAnswer {
 
 // A refusal by its number and its place; both 0 where there is none.
 #[repr(C)]
-#[derive(Drop)]
+#[derive(Clone, Copy)]
 pub struct Told {
     pub number: u32,
     pub place: u32,
@@ -159,7 +159,7 @@ pub struct Told {
 
 // Yes, no (yes is false) or refused.
 #[repr(C)]
-#[derive(Drop)]
+#[derive(Clone, Copy)]
 pub struct PairTold {
     pub refusal: Told,
     pub yes: bool,
@@ -167,7 +167,7 @@ pub struct PairTold {
 
 // A count, a stage or a unit; 0 where it is refused.
 #[repr(C)]
-#[derive(Drop)]
+#[derive(Clone, Copy)]
 pub struct NumberTold {
     pub refusal: Told,
     pub number: u32,

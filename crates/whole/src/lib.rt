@@ -116,7 +116,7 @@ fn vectors_true(
 
 // What judging an index finds: the number, from 1, of the first condition of a whole index that fails, 0 where it is whole; and then
 // the first bit of the vectors of each track.
-#[derive(Drop)]
+#[derive(Clone, Copy)]
 pub struct Judged {
     pub fault: u32,
     pub row: [u32; 66],

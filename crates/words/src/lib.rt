@@ -76,7 +76,7 @@ pub fn ones_through(words: &[u64], directory: &[u16], x: usize) -> usize
 // ---- places
 
 // What is left of a search for a 1 within a word: the part not yet passed, the ones to pass in it, and the bits passed.
-#[derive(Drop)]
+#[derive(Clone, Copy)]
 pub struct Part {
     pub word: u64,
     pub left: u32,
