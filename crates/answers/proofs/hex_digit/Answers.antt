@@ -1,0 +1,14 @@
+-- `answers::hex_digit`: the branch is the definition's.
+-- Assumes nothing.
+use borrow.Author.Rules.{rules}
+use borrow.Author.Tests.{lt-ltb, le-ltb}
+use Rattle.answers.specs.Printed.{hex_digit}
+use Rattle.answers.proofs.hex_digit.Goals as goal
+
+pub returns-then-d-lt10 : goal.returns-then-d-lt10
+unfolding hex_digit
+returns-then-d-lt10 c = rw (lt-ltb c.args.d 10 (search rules))
+
+pub returns-else-d-lt10 : goal.returns-else-d-lt10
+unfolding hex_digit
+returns-else-d-lt10 c = rw (le-ltb c.args.d 10 (search rules))

@@ -1,0 +1,63 @@
+use Prim.Native.Nat.{ℕ, ◌+◌, ◌-◌, ◌*◌, ◌≤◌}
+use mathlib.Core.Path.{◌≡◌, ap, ◌∙◌}
+use native.Mathlib.Omega.{arith}
+use lib.ListN.{get_or, set}
+use borrow.Author.Rules.{rules}
+use Rattle.rules.specs.Ranges.{sum}
+use Rattle.rules.specs.Layout.{vector_room, offset}
+use Rattle.rules.specs.Index.{lens_of}
+use Rattle.rules.proofs.Ranges.{sum_none, sum-next}
+use Rattle.rules.proofs.Layouts.{offset-start, offset_row, offset_add, room_past}
+use Rattle.layout.proofs.Rows.{starts_to, starts_in, units_in, starts_none, starts_next, starts_all}
+use Rattle.layout.proofs.row_starts.Goals as goal
+
+-- TODO
+record Turn (c : tie.After-times invariant-loop decreases-loop) : Type 0 where
+  bit : get_or c.before.before.before.before.loop.row (p c) 0 ≡ offset (s c) (k c) (p c) 0
+  before : get_or c.before.before.before.before.loop.row (p c + 33) 0 ≡ sum (s c) (p c)
+  bits : c.times.result + c.before.before.before.before.before.units_of.result ≡ sum (vector_room (s c) (p c)) (k c) + 2 * c.before.wide.result
+
+turn : (c : goal.After-times) → Turn c
+turn c =
+    let e = c.loop-p.invariant.1 in
+    record {
+      bit = ap (λ l. get_or l (c.loop-p.p) 0) e ∙ starts_in ((lens_of c.args.lens.now)) (c.args.k) (c.loop-p.p) (c.loop-p.p) (omega arith) (omega arith);
+      before = ap (λ l. get_or l (c.loop-p.p + 33) 0) e ∙ units_in ((lens_of c.args.lens.now)) (c.args.k) (c.loop-p.p) (c.loop-p.p) (omega arith) (omega arith);
+      bits = omega (arith, room_past ((lens_of c.args.lens.now)) (c.loop-p.p) (c.args.k) (omega arith), ap (λ x. c.args.k * x) c.wide-own.ensures.0);
+    }
+
+pub loop-p-init : goal.loop-p-init
+loop-p-init c =
+    let a = c.args in
+    (omega arith, starts_none _ _, omega (arith, offset-start (lens_of a.lens.now) a.k), omega (arith, sum_none (lens_of a.lens.now)))
+
+pub overflow_sub-row : goal.overflow_sub-row
+overflow_sub-row c = omega (arith, turn c)
+
+pub overflow_cast-row : goal.overflow_cast-row
+overflow_cast-row c = omega (arith, turn c)
+
+pub overflow_add-row-in-loop-p : goal.overflow_add-row-in-loop-p
+overflow_add-row-in-loop-p c = omega (arith, turn c)
+
+pub overflow_add-row-in-loop-p-3 : goal.overflow_add-row-in-loop-p-3
+overflow_add-row-in-loop-p-3 c = omega (arith, turn c)
+
+pub loop-p-preserved : goal.loop-p-preserved
+loop-p-preserved c =
+    let t = turn c in
+    let next : offset ((lens_of c.args.lens.now)) (c.args.k) (c.loop-p.p + 1) 0 ≡ offset ((lens_of c.args.lens.now)) (c.args.k) (c.loop-p.p) 0 + sum (vector_room ((lens_of c.args.lens.now)) (c.loop-p.p)) (c.args.k) =
+    omega (arith, offset_row ((lens_of c.args.lens.now)) (c.args.k) (c.loop-p.p), offset_add ((lens_of c.args.lens.now)) (c.args.k) (c.loop-p.p) (c.args.k)) in
+    let more : sum ((lens_of c.args.lens.now)) (c.loop-p.p + 1) ≡ sum ((lens_of c.args.lens.now)) (c.loop-p.p) + c.wide-own.result = omega (arith, sum-next ((lens_of c.args.lens.now)) (c.loop-p.p)) in
+    let row = c.loop-p.row in
+    let bit = get_or row (c.loop-p.p) 0 + (c.times.result + c.units_of-units.result - 2 * c.wide-own.result) in
+    let before = get_or row (c.loop-p.p + 33) 0 + c.wide-own.result in
+    let filled = starts_next ((lens_of c.args.lens.now)) (c.args.k) (c.loop-p.p) bit before (omega arith) (omega (arith, t, next)) (omega (arith, t, more)) in
+    let entries = c.loop-p.invariant.1 in
+    (omega arith, ap (λ l. set (set l (c.loop-p.p + 1) bit) (c.loop-p.p + 34) before) entries ∙ filled, omega (arith, t, next), omega (arith, more))
+
+pub returns : goal.returns
+returns c =
+    let a = c.args in
+    let e : c.loop-p.p ≡ a.k = omega arith in
+    c.loop-p.invariant.1 ∙ rw e (starts_all (lens_of a.lens.now) a.k)

@@ -1,0 +1,19 @@
+-- `layout::row_starts`: after p turns the rows below p are summed, and no row is wider than 2 ^ 22 bits. Assumes nothing.
+use Prim.Native.Nat.{ℕ, ◌+◌, ◌-◌, ◌*◌, ◌≤◌}
+use mathlib.Core.Path.{◌≡◌, ap, ◌∙◌}
+use native.Mathlib.Omega.{arith}
+use lib.ListN.{get_or, set}
+use borrow.Author.Rules.{rules}
+use Rattle.rules.specs.Ranges.{sum}
+use Rattle.rules.specs.Layout.{vector_room, offset}
+use Rattle.rules.specs.Index.{lens_of}
+use Rattle.rules.proofs.Ranges.{sum_none, sum-next}
+use Rattle.rules.proofs.Layouts.{offset-start, offset_row, offset_add, room_past}
+use Rattle.layout.proofs.Rows.{starts_to, starts_in, units_in, starts_none, starts_next, starts_all}
+use Rattle.layout.proofs.row_starts.Given as goal
+
+abbrev pub invariant-loop-p : goal.invariant-loop-p
+invariant-loop-p l = (l.p ≤ l.k) × (l.row ≡ starts_to (lens_of l.lens) l.k l.p) × (offset (lens_of l.lens) l.k l.p 0 ≤ 4194304 * l.p) × (sum (lens_of l.lens) l.p ≤ 65536 * l.p)
+
+abbrev pub decreases-loop-p : goal.decreases-loop-p
+decreases-loop-p l = l.k - l.p

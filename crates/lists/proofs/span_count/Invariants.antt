@@ -1,0 +1,16 @@
+-- `lists::span_count` meets its contract. The loop's invariant: the count is the sum over the tracks passed, at most 65,536 for each.
+-- Assumes nothing.
+use Prim.Native.Nat.{ℕ, ◌+◌, ◌-◌, ◌*◌, ◌≤◌}
+use mathlib.Core.Path.{◌≡◌, sym}
+use native.Mathlib.Omega.{arith}
+use lib.ListN.{get_or}
+use borrow.Author.Rules.{rules}
+use Rattle.rules.specs.Ranges.{sum}
+use Rattle.rules.proofs.Ranges.{sum_none, sum-next}
+use Rattle.lists.proofs.span_count.Given as goal
+
+abbrev pub invariant-loop-q : goal.invariant-loop-q
+invariant-loop-q l = (l.q ≤ l.k) × (l.count ≤ 65536 * l.q) × (l.count ≡ sum (λ p. get_or l.to p 0 + 1 - get_or l.from p 0) l.q)
+
+abbrev pub decreases-loop-q : goal.decreases-loop-q
+decreases-loop-q l = l.k - l.q

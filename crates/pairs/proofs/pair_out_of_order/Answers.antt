@@ -1,0 +1,54 @@
+use Prim.Native.Nat.{ℕ, ◌+◌, ◌-◌, ◌*◌, ◌/◌, ◌≤◌, ◌<◌}
+use mathlib.Core.Path.{◌≡◌, sym, ap, ◌∙◌}
+use mathlib.Core.Bool.{false, not}
+use mathlib.Core.List.{List}
+use native.Mathlib.Omega.{arith}
+use lib.ListN.{length, get_or}
+use borrow.Author.Count.{below_more}
+use borrow.Author.Rules.{rules}
+use borrow.Author.Tests.{lt-ltb, le-ltb}
+use Rattle.rules.specs.Listing.{units_above, out_of_order}
+use Rattle.rules.proofs.Ranges.{first_le, first_is, first_none}
+use Rattle.pairs.proofs.pair_out_of_order.Goals as goal
+
+-- the first pair has none before it
+order-first : (l : List ℕ) (i : ℕ) → i < 1 → out_of_order l i ≡ false
+unfolding out_of_order
+order-first l i h = rw (le-ltb 0 i (omega arith))
+
+-- pair i against the one before it
+order-at : (l : List ℕ) (i : ℕ) → 1 ≤ i
+    → out_of_order l i ≡ not (units_above (get_or l (2 * i) 0) (get_or l (2 * i + 1) 0) (get_or l (2 * i - 2) 0) (get_or l (2 * i - 1) 0))
+unfolding out_of_order
+order-at l i h =
+    let e : 2 * (i - 1) ≡ 2 * i - 2 = omega arith in
+    let f : 2 * i - 2 + 1 ≡ 2 * i - 1 = omega arith in
+    rw (lt-ltb 0 i h, e, f)
+
+-- the call tells of pair i
+told : (c : goal.After-is_above)
+    → out_of_order c.args.needs.now c.loop-i.i ≡ not c.is_above.result
+told c =
+    order-at c.args.needs.now c.loop-i.i c.loop-i.invariant.0 ∙ ap not (sym c.is_above.ensures)
+
+pub returns-then-pairs-eq0 : goal.returns-then-pairs-eq0
+returns-then-pairs-eq0 c =
+    let l = c.args.needs.now in
+    omega (arith, first_le (out_of_order l) (length l / 2))
+
+pub loop-i-init : goal.loop-i-init
+loop-i-init c = (search rules, search rules, order-first c.args.needs.now)
+
+pub returns-then-not-is_above : goal.returns-then-not-is_above
+returns-then-not-is_above c =
+    let l = c.args.needs.now in
+    sym (first_is (out_of_order l) (length l / 2) c.loop-i.i c.loop-i-test.true c.loop-i.invariant.2 (told (goal.at.returns-then-not-is_above c).After-is_above ∙ c.if-not-is_above.true))
+
+pub loop-i-preserved : goal.loop-i-preserved
+loop-i-preserved c =
+    (search rules, search rules, below_more _ _ c.loop-i.invariant.2 (told (goal.at.loop-i-preserved c).After-is_above ∙ c.if-not-is_above.false))
+
+pub returns : goal.returns
+returns c =
+    let l = c.args.needs.now in
+    omega (arith, first_none (out_of_order l) (length l / 2) (λ j h. c.loop-i.invariant.2 j (omega arith)))

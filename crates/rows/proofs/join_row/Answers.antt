@@ -1,0 +1,18 @@
+use Prim.Native.Nat.{◌+◌, ◌-◌, ◌≤◌, ◌<◌}
+use mathlib.Core.Path.{◌≡◌}
+use native.Mathlib.Omega.{arith}
+use borrow.Author.Rules.{rules}
+use Rattle.rows.specs.Rows.{RowIs}
+use Rattle.rows.proofs.RowsWritten.{row_start, joined, join_write}
+use Rattle.rows.proofs.join_row.Goals as goal
+
+pub loop-q-init : goal.loop-q-init
+loop-q-init c = (omega arith, row_start _ _ _)
+
+pub loop-q-preserved : goal.loop-q-preserved
+loop-q-preserved c =
+    let b : c.args.from + c.loop-q.q < c.args.to = omega arith in
+    (omega arith, join_write _ c.loop-q.invariant.1 b _ (omega arith) c.greater.ensures)
+
+pub returns : goal.returns
+returns c = let e : c.loop-q.q ≡ c.args.k = omega arith in rw e at c.loop-q.invariant.1

@@ -1,0 +1,26 @@
+use Prim.Native.Nat.{◌-◌, ◌/◌}
+use native.Mathlib.Omega.{arith}
+use lib.ListN.{get_or}
+use Rattle.words.proofs.Searches.{Narrowed, narrowed_all, narrowed_left, narrowed_right, narrowed_one, less_left, less_right}
+use Rattle.words.proofs.word_of_one.Goals as goal
+
+pub loop-a-init : goal.loop-a-init
+loop-a-init c = narrowed_all (omega arith) c.requires.lo_bound
+
+pub overflow_cast-directory : goal.overflow_cast-directory
+overflow_cast-directory c = omega (arith, c.type_inv.directory (c.loop-a.b - (c.loop-a.b - c.loop-a.a) / 2))
+
+pub loop-a-smaller-then-directory-mid : goal.loop-a-smaller-then-directory-mid
+loop-a-smaller-then-directory-mid c = less_right _ _ c.loop-a-test.true
+
+pub loop-a-preserved-then-directory-mid : goal.loop-a-preserved-then-directory-mid
+loop-a-preserved-then-directory-mid c = narrowed_right c.loop-a.invariant (omega arith) (omega arith) c.if-directory-mid.true
+
+pub loop-a-smaller : goal.loop-a-smaller
+loop-a-smaller c = less_left _ _ c.loop-a-test.true
+
+pub loop-a-preserved : goal.loop-a-preserved
+loop-a-preserved c = narrowed_left c.loop-a.invariant (omega arith) (omega arith) c.if-directory-mid.false
+
+pub returns : goal.returns
+returns c = narrowed_one c.loop-a.invariant c.loop-a-test.false

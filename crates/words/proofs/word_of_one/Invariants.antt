@@ -1,0 +1,12 @@
+-- `words::word_of_one`: the words that are left are halved; what halving keeps is `Narrowed`. Assumes nothing.
+use Prim.Native.Nat.{◌-◌, ◌/◌}
+use native.Mathlib.Omega.{arith}
+use lib.ListN.{get_or}
+use Rattle.words.proofs.Searches.{Narrowed, narrowed_all, narrowed_left, narrowed_right, narrowed_one, less_left, less_right}
+use Rattle.words.proofs.word_of_one.Given as goal
+
+abbrev pub invariant-loop-a : goal.invariant-loop-a
+invariant-loop-a l = Narrowed (λ j. get_or l.directory j 0) l.lo l.hi l.t l.a l.b
+
+abbrev pub decreases-loop-a : goal.decreases-loop-a
+decreases-loop-a l = l.b - l.a
