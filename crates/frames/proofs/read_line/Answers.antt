@@ -13,10 +13,11 @@ use Rattle.rules.proofs.Overs.{rest_is}
 use Rattle.frames.proofs.Frames.{kind_spelled, digits-not, line_short, line_unfed, line_no_kind, line_kind}
 use borrow.Author.Rules.{rules}
 use Rattle.frames.proofs.read_line.Goals as goal
+use Rattle.frames.proofs.read_line.Goals.{Else-low-gt15}
 
 -- past the tests of the kind
-kind-read : (c : goal.Else-low-gt15) → line_of (c.args.line.now) ≡ with_numbers ((c.digit-high.result * 16 + c.digit-low.result)) (numbers_of (drop 2 (c.args.line.now)))
-kind-read c =
+kind_read : (c : Else-low-gt15) → line_of (c.args.line.now) ≡ with_numbers ((c.digit-high.result * 16 + c.digit-low.result)) (numbers_of (drop 2 (c.args.line.now)))
+kind_read c =
     let fed = not-false (eqb (get_or (c.args.line.now) 10 0) 10) c.if-line-ne10.false in
     let k = kind_spelled (c.args.line.now) (omega arith) (omega (arith, ltb-false)) in
     let e : spelled (c.args.line.now) 2 ≡ (c.digit-high.result * 16 + c.digit-low.result) = omega arith in
@@ -46,7 +47,7 @@ returns-then-high-gt15 c =
 pub returns-in_default : goal.returns-in_default
 returns-in_default c =
     let e = sym (c.read_numbers.ensures ∙ ap numbers_of (rest_is (c.args.line.now) 2)) ∙ c.in_default.is in
-    sym (kind-read (goal.at.returns-in_default c).Else-low-gt15 ∙ rw e)
+    sym (kind_read (goal.at.returns-in_default c).Else-low-gt15 ∙ rw e)
 
 pub overflow_mul-result : goal.overflow_mul-result
 overflow_mul-result c = record { fits = omega (arith, ltb-false) }
@@ -57,4 +58,4 @@ overflow_add-result c = record { fits = omega (arith, ltb-false) }
 pub returns : goal.returns
 returns c =
     let e = sym (c.read_numbers.ensures ∙ ap numbers_of (rest_is (c.args.line.now) 2)) ∙ c.in-Two.is in
-    sym (kind-read (goal.at.returns c).Else-low-gt15 ∙ rw e)
+    sym (kind_read (goal.at.returns c).Else-low-gt15 ∙ rw e)

@@ -10,6 +10,7 @@ use Rattle.rules.proofs.Ranges.{sum_none, sum-next}
 use Rattle.rules.proofs.Layouts.{offset-start, offset_row, offset_add, room_past}
 use Rattle.layout.proofs.Rows.{starts_to, starts_in, units_in, starts_none, starts_next, starts_all}
 use Rattle.layout.proofs.row_starts.Goals as goal
+use Rattle.layout.proofs.row_starts.Goals.{After-times}
 
 -- TODO
 record Turn (c : tie.After-times invariant-loop decreases-loop) : Type 0 where
@@ -17,7 +18,7 @@ record Turn (c : tie.After-times invariant-loop decreases-loop) : Type 0 where
   before : get_or c.before.before.before.before.loop.row (p c + 33) 0 ≡ sum (s c) (p c)
   bits : c.times.result + c.before.before.before.before.before.units_of.result ≡ sum (vector_room (s c) (p c)) (k c) + 2 * c.before.wide.result
 
-turn : (c : goal.After-times) → Turn c
+turn : (c : After-times) → Turn c
 turn c =
     let e = c.loop-p.invariant.1 in
     record {

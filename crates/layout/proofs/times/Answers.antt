@@ -3,8 +3,9 @@ use Prim.Native.Nat.{◌*◌, ◌≤◌}
 use native.Mathlib.Omega.{arith}
 use native.Mathlib.Nat.{mul-le-mul, le_refl}
 use Rattle.layout.proofs.times.Goals as goal
+use Rattle.layout.proofs.times.Goals.{Start}
 
-few : (c : goal.Start) → c.args.count * c.args.number ≤ 32 * c.args.number
+few : (c : Start) → c.args.count * c.args.number ≤ 32 * c.args.number
 few c = mul-le-mul c.requires.0 (le_refl c.args.number)
 
 pub overflow_mul-result : goal.overflow_mul-result

@@ -17,6 +17,7 @@ use Rattle.lists.specs.Spans.{in_spans, spanned, listed}
 use Rattle.lists.proofs.Spans.{tracks_wide, spanned-count}
 use borrow.Author.Rules.{rules}
 use Rattle.lists.proofs.answer_list.Goals as goal
+use Rattle.lists.proofs.answer_list.Goals.{After-span_count-count, Else-list-place-2}
 
 -- the part from a place on is the rest of the list
 rest : (list : List ℕ) (at : ℕ) → take (length list - at) (drop at list) ≡ drop at list
@@ -40,19 +41,19 @@ module _ (units list : List ℕ) (at n : ℕ) (e : n ≡ length units) where
   short h = rw (lt-leb (at + length units) (length list) (omega arith), e)
 
 -- the count is that of the units in the spans
-count_is : (c : goal.After-span_count-count)
+count_is : (c : After-span_count-count)
     → let a = c.args in c.span_count-count.result ≡ length (spanned a.from.now a.to.now a.tracks.now)
 count_is c =
     let p = c.requires in
     c.span_count-count.ensures ∙ sym (spanned-count p.0 p.1)
 
 -- at most as many as the track list has
-count_few : (c : goal.After-span_count-count) → c.span_count-count.result ≤ 1024
+count_few : (c : After-span_count-count) → c.span_count-count.result ≤ 1024
 count_few c =
     omega (arith, count_is c, units_most (in_spans c.args.from.now c.args.to.now c.args.tracks.now) (length c.args.tracks.now), c.requires.tracks.few_units)
 
 -- what the test lets through has room
-room : (c : goal.Else-list-place-2)
+room : (c : Else-list-place-2)
     → let a = c.args in a.place + c.span_count-count.result ≤ length a.list.now
 room c = omega (arith, ltb-false)
 

@@ -7,9 +7,9 @@ use Rattle.rules.specs.Listing.{track, in_track, size, position}
 use Rattle.rules.proofs.Tracks.{in_none, in_own, in_other, in_le, track-next, unit_is, unit_none}
 use Rattle.lists.proofs.unit_at.Goals as goal
 
-zero-or-more : (i : ℕ) → (i ≡ 0) ⊎ (0 < i)
-zero-or-more zero = inl refl
-zero-or-more (suc i) = inr (omega arith)
+zero_or_more : (i : ℕ) → (i ≡ 0) ⊎ (0 < i)
+zero_or_more zero = inl refl
+zero_or_more (suc i) = inr (omega arith)
 
 -- a count that grows past no place but i stays below it
 not_yet : {i seen : ℕ} → (i ≡ 0) ⊎ (seen < i) → (seen + 1 ≡ i → ⊥) → (i ≡ 0) ⊎ (seen + 1 < i)
@@ -17,7 +17,7 @@ not_yet (inl z) n = inl z
 not_yet {i} {seen} (inr l) n = inr (omega arith)
 
 pub loop-j-init : goal.loop-j-init
-loop-j-init c = (omega arith, sym (in_none _ _), zero-or-more c.args.i)
+loop-j-init c = (omega arith, sym (in_none _ _), zero_or_more c.args.i)
 
 pub overflow_add-seen : goal.overflow_add-seen
 overflow_add-seen c = omega (arith, in_le c.args.tracks.now c.args.q c.loop-j.j)

@@ -7,107 +7,108 @@ use borrow.Author.Rules.{rules}
 use Rattle.lists.specs.Spans.{in_spans, spanned}
 use Rattle.lists.proofs.Spans.{Seen, seen_none, seen_le, seen_next, spans_seen, Written, written_none, written_more, written_all, written_length, written_room, written_yes, written_no}
 use Rattle.lists.proofs.write_units.Goals as goal
+use Rattle.lists.proofs.write_units.Goals.{After-in_span, After-in_span-arg-1, After-way_told-1, After-way_told-in-loop-done-1, At-loop-done, In-loop-done, Joined-in_span, Then-in_span}
 
 -- while a unit is to come, not all were seen
-more : (c : goal.In-loop-done) → c.loop-done.i < length c.args.tracks.now
+more : (c : In-loop-done) → c.loop-done.i < length c.args.tracks.now
 more c =
     written_more _ _ _ _ c.loop-done.invariant.2 (length c.args.tracks.now) c.loop-done.invariant.0 (omega (arith, c.requires.count_value.0, c.loop-done-test.true))
 
 -- while a unit is to come, not all were seen
-more-2 : (c : goal.Joined-in_span) → c.loop-done.i < length c.args.tracks.now
-more-2 c =
+more_2 : (c : Joined-in_span) → c.loop-done.i < length c.args.tracks.now
+more_2 c =
     written_more _ _ _ _ c.loop-done.invariant.2 (length c.args.tracks.now) c.loop-done.invariant.0 (omega (arith, c.requires.count_value.0, c.loop-done-test.true))
 
 -- while a unit is to come, not all were seen
-more-3 : (c : goal.After-in_span) → c.loop-done.i < length c.args.tracks.now
-more-3 c =
+more_3 : (c : After-in_span) → c.loop-done.i < length c.args.tracks.now
+more_3 c =
     written_more _ _ _ _ c.loop-done.invariant.2 (length c.args.tracks.now) c.loop-done.invariant.0 (omega (arith, c.requires.count_value.0, c.loop-done-test.true))
 
 -- while a unit is to come, not all were seen
-more-4 : (c : goal.Then-in_span) → c.loop-done.i < length c.args.tracks.now
-more-4 c =
+more_4 : (c : Then-in_span) → c.loop-done.i < length c.args.tracks.now
+more_4 c =
     written_more _ _ _ _ c.loop-done.invariant.2 (length c.args.tracks.now) c.loop-done.invariant.0 (omega (arith, c.requires.count_value.0, c.loop-done-test.true))
 
 -- while a unit is to come, not all were seen
-more-5 : (c : goal.After-way_told-1) → c.loop-done.i < length c.args.tracks.now
-more-5 c =
+more_5 : (c : After-way_told-1) → c.loop-done.i < length c.args.tracks.now
+more_5 c =
     written_more _ _ _ _ c.loop-done.invariant.2 (length c.args.tracks.now) c.loop-done.invariant.0 (omega (arith, c.requires.count_value.0, c.loop-done-test.true))
 
 -- while a unit is to come, not all were seen
-more-6 : (c : goal.After-in_span-arg-1) → c.loop-done.i < length c.args.tracks.now
-more-6 c =
+more_6 : (c : After-in_span-arg-1) → c.loop-done.i < length c.args.tracks.now
+more_6 c =
     written_more _ _ _ _ c.loop-done.invariant.2 (length c.args.tracks.now) c.loop-done.invariant.0 (omega (arith, c.requires.count_value.0, c.loop-done-test.true))
 
 -- while a unit is to come, not all were seen
-more-7 : (c : goal.After-way_told-in-loop-done-1) → c.loop-done.i < length c.args.tracks.now
-more-7 c =
+more_7 : (c : After-way_told-in-loop-done-1) → c.loop-done.i < length c.args.tracks.now
+more_7 c =
     written_more _ _ _ _ c.loop-done.invariant.2 (length c.args.tracks.now) c.loop-done.invariant.0 (omega (arith, c.requires.count_value.0, c.loop-done-test.true))
 
 -- the track of unit i + 1 is one of 32
-few : (c : goal.In-loop-done) → get_or c.args.tracks.now c.loop-done.i 0 < 32
+few : (c : In-loop-done) → get_or c.args.tracks.now c.loop-done.i 0 < 32
 few c = c.requires.tracks.each c.loop-done.i (more c)
 
 -- the track of unit i + 1 is one of 32
-few-2 : (c : goal.After-way_told-1) → get_or c.args.tracks.now c.loop-done.i 0 < 32
-few-2 c = c.requires.tracks.each c.loop-done.i (more-5 c)
+few_2 : (c : After-way_told-1) → get_or c.args.tracks.now c.loop-done.i 0 < 32
+few_2 c = c.requires.tracks.each c.loop-done.i (more_5 c)
 
 -- the track of unit i + 1 is one of 32
-few-3 : (c : goal.After-in_span-arg-1) → get_or c.args.tracks.now c.loop-done.i 0 < 32
-few-3 c = c.requires.tracks.each c.loop-done.i (more-6 c)
+few_3 : (c : After-in_span-arg-1) → get_or c.args.tracks.now c.loop-done.i 0 < 32
+few_3 c = c.requires.tracks.each c.loop-done.i (more_6 c)
 
 -- the track of unit i + 1 is one of 32
-few-4 : (c : goal.After-way_told-in-loop-done-1) → get_or c.args.tracks.now c.loop-done.i 0 < 32
-few-4 c = c.requires.tracks.each c.loop-done.i (more-7 c)
+few_4 : (c : After-way_told-in-loop-done-1) → get_or c.args.tracks.now c.loop-done.i 0 < 32
+few_4 c = c.requires.tracks.each c.loop-done.i (more_7 c)
 
 -- the track of unit i + 1 is one of 32
-few-5 : (c : goal.Joined-in_span) → get_or c.args.tracks.now c.loop-done.i 0 < 32
-few-5 c = c.requires.tracks.each c.loop-done.i (more-2 c)
+few_5 : (c : Joined-in_span) → get_or c.args.tracks.now c.loop-done.i 0 < 32
+few_5 c = c.requires.tracks.each c.loop-done.i (more_2 c)
 
 -- the track of unit i + 1 is one of 32
-few-6 : (c : goal.After-in_span) → get_or c.args.tracks.now c.loop-done.i 0 < 32
-few-6 c = c.requires.tracks.each c.loop-done.i (more-3 c)
+few_6 : (c : After-in_span) → get_or c.args.tracks.now c.loop-done.i 0 < 32
+few_6 c = c.requires.tracks.each c.loop-done.i (more_3 c)
 
 -- the track of unit i + 1 is one of 32
-few-7 : (c : goal.Then-in_span) → get_or c.args.tracks.now c.loop-done.i 0 < 32
-few-7 c = c.requires.tracks.each c.loop-done.i (more-4 c)
+few_7 : (c : Then-in_span) → get_or c.args.tracks.now c.loop-done.i 0 < 32
+few_7 c = c.requires.tracks.each c.loop-done.i (more_4 c)
 
 -- the call tells whether unit i + 1 is in the spans
-test : (c : goal.After-in_span)
+test : (c : After-in_span)
     → c.in_span.result ≡ in_spans c.args.from.now c.args.to.now c.args.tracks.now (c.loop-done.i + 1)
 test c =
     c.in_span.ensures
-    ∙ sym (spans_seen c.loop-done.invariant.1 (few-6 c) c.args.from.now c.args.to.now (c.loop-done.i + 1) refl)
+    ∙ sym (spans_seen c.loop-done.invariant.1 (few_6 c) c.args.from.now c.args.to.now (c.loop-done.i + 1) refl)
 
 -- the call tells whether unit i + 1 is in the spans
-test-2 : (c : goal.Then-in_span)
+test_2 : (c : Then-in_span)
     → c.in_span.result ≡ in_spans c.args.from.now c.args.to.now c.args.tracks.now (c.loop-done.i + 1)
-test-2 c =
+test_2 c =
     c.in_span.ensures
-    ∙ sym (spans_seen c.loop-done.invariant.1 (few-7 c) c.args.from.now c.args.to.now (c.loop-done.i + 1) refl)
+    ∙ sym (spans_seen c.loop-done.invariant.1 (few_7 c) c.args.from.now c.args.to.now (c.loop-done.i + 1) refl)
 
 -- the list has room for all
-wide-2 : (c : goal.At-loop-done) → length (spanned c.args.from.now c.args.to.now c.args.tracks.now) ≤ length c.args.list.now
-wide-2 c = omega (arith, c.requires.count_value)
+wide_2 : (c : At-loop-done) → length (spanned c.args.from.now c.args.to.now c.args.tracks.now) ≤ length c.args.list.now
+wide_2 c = omega (arith, c.requires.count_value)
 
 -- the list has room for all
-wide-3 : (c : goal.Then-in_span) → length (spanned c.args.from.now c.args.to.now c.args.tracks.now) ≤ length c.args.list.now
-wide-3 c = omega (arith, c.requires.count_value)
+wide_3 : (c : Then-in_span) → length (spanned c.args.from.now c.args.to.now c.args.tracks.now) ≤ length c.args.list.now
+wide_3 c = omega (arith, c.requires.count_value)
 
 -- the list is as long as it was
-long : (c : goal.At-loop-done) → length c.loop-done.list ≡ length c.args.list.now
+long : (c : At-loop-done) → length c.loop-done.list ≡ length c.args.list.now
 long c =
-    written_length _ _ _ _ c.loop-done.invariant.2 (length c.args.tracks.now) (wide-2 c) c.loop-done.invariant.0
+    written_length _ _ _ _ c.loop-done.invariant.2 (length c.args.tracks.now) (wide_2 c) c.loop-done.invariant.0
 
 -- the list is as long as it was
-long-2 : (c : goal.Then-in_span) → length c.loop-done.list ≡ length c.args.list.now
-long-2 c =
-    written_length _ _ _ _ c.loop-done.invariant.2 (length c.args.tracks.now) (wide-3 c) c.loop-done.invariant.0
+long_2 : (c : Then-in_span) → length c.loop-done.list ≡ length c.args.list.now
+long_2 c =
+    written_length _ _ _ _ c.loop-done.invariant.2 (length c.args.tracks.now) (wide_3 c) c.loop-done.invariant.0
 
 -- and where unit i + 1 is in the spans, it has room for it
-room : (c : goal.Then-in_span)
+room : (c : Then-in_span)
     → c.loop-done.done < length c.args.list.now
 room c =
-    written_room _ _ _ _ c.loop-done.invariant.2 (length c.args.tracks.now) (wide-3 c) (more-4 c) (sym (test-2 c) ∙ c.if-in_span.true)
+    written_room _ _ _ _ c.loop-done.invariant.2 (length c.args.tracks.now) (wide_3 c) (more_4 c) (sym (test_2 c) ∙ c.if-in_span.true)
 
 pub loop-done-init : goal.loop-done-init
 loop-done-init c = (omega arith, seen_none _, written_none _ _ _ _)
@@ -138,31 +139,31 @@ pub offset_bounds-from-q : goal.offset_bounds-from-q
 offset_bounds-from-q c = omega (arith, few (goal.at.offset_bounds-from-q c).In-loop-done)
 
 pub bounds-from-q : goal.bounds-from-q
-bounds-from-q c = omega (arith, few-2 c)
+bounds-from-q c = omega (arith, few_2 c)
 
 pub offset_bounds-to-q : goal.offset_bounds-to-q
-offset_bounds-to-q c = omega (arith, few-3 c)
+offset_bounds-to-q c = omega (arith, few_3 c)
 
 pub bounds-to-q : goal.bounds-to-q
-bounds-to-q c = omega (arith, few-4 c)
+bounds-to-q c = omega (arith, few_4 c)
 
 pub offset_bounds-list-done : goal.offset_bounds-list-done
 offset_bounds-list-done c = omega (arith, room c)
 
 pub bounds-list-done : goal.bounds-list-done
-bounds-list-done c = omega (arith, room c, long-2 c)
+bounds-list-done c = omega (arith, room c, long_2 c)
 
 pub overflow_add-done : goal.overflow_add-done
 overflow_add-done c = omega (arith, room c)
 
 pub loop-done-smaller : goal.loop-done-smaller
-loop-done-smaller c = omega (arith, more-2 c)
+loop-done-smaller c = omega (arith, more_2 c)
 
 pub loop-done-preserved : goal.loop-done-preserved
 loop-done-preserved c =
     (
-      omega (arith, more-2 c),
-      seen_next c.loop-done.invariant.1 (few-5 c) (c.loop-done.i + 1) refl,
+      omega (arith, more_2 c),
+      seen_next c.loop-done.invariant.1 (few_5 c) (c.loop-done.i + 1) refl,
       ⊎_elim
           (λ w.
           let t = sym (test (goal.at.loop-done-preserved c).After-in_span) ∙ w.0.taken in

@@ -8,9 +8,10 @@ use borrow.Author.Rules.{rules}
 use Rattle.rules.specs.Listing.{bad_pair}
 use Rattle.rules.proofs.Ranges.{first_is, first_none}
 use Rattle.pairs.proofs.bad_pair.Goals as goal
+use Rattle.pairs.proofs.bad_pair.Goals.{After-is_bad_pair}
 
 -- the call tells of pair i
-told : (c : goal.After-is_bad_pair)
+told : (c : After-is_bad_pair)
     → c.is_bad_pair.result ≡ bad_pair c.args.n c.args.needs.now c.loop-i.i
 unfolding bad_pair
 told c = c.is_bad_pair.ensures

@@ -12,13 +12,34 @@ use Rattle.rules.proofs.Ranges.{not_both}
 use Rattle.rules.proofs.Verdicts.{and_both, within_is, is_within, not_no}
 use Rattle.pairs.proofs.is_bad_pair.Goals as goal
 
+module _ (n u v : ℕ) where
+  units_good : u ≤ n → 1 ≤ v → v < u → bad_units n u v ≡ false
+  unfolding bad_units
+  units_good a b d =
+      rw (is_within {a = 1} {b = n} {x = u} (omega arith) a, is_within {a = 1} {b = n} {x = v} b (omega arith), lt-ltb v u d)
+
+  units_bad : (u ≤ n → 1 ≤ v → v < u → ⊥) → bad_units n u v ≡ true
+  unfolding bad_units
+  units_bad h = not_no (bad_units n u v) (λ f.
+      let r = and_both (within 1 n u && within 1 n v) (ltb v u) (not-false _ f) in
+      let s = and_both (within 1 n u) (within 1 n v) r.0 in
+      h (within_is 1 n u s.0).1 (within_is 1 n v s.1).0 (ltb-true v u r.1))
+
+  -- u is at most n and v is not 0: the last test decides
+  units_last : u ≤ n → 1 ≤ v → leb u v ≡ bad_units n u v
+  units_last a b = go (dec_le u v)
+    where
+      go : Dec (u ≤ v) → leb u v ≡ bad_units n u v
+      go (yes h) = le-leb u v h ∙ sym (units_bad (λ _ _ d. omega arith))
+      go (no h) = lt-leb u v (omega arith) ∙ sym (units_good a b (omega arith))
+
 pub returns-then-v-eq0 : goal.returns-then-v-eq0
 returns-then-v-eq0 c =
     let n = c.args.n in
     let u = c.args.u in
     let v = c.args.v in
     c.if-v-eq0.true
-    ∙ sym (units-bad n u v (λ a b d. ⊎_elim (λ w. omega arith) (λ w. omega (arith, eqb-true v 0 (sym w.1 ∙ c.if-v-eq0.true))) c.if-n-u.branch))
+    ∙ sym (units_bad n u v (λ a b d. ⊎_elim (λ w. omega arith) (λ w. omega (arith, eqb-true v 0 (sym w.1 ∙ c.if-v-eq0.true))) c.if-n-u.branch))
 
 pub returns-else-v-eq0 : goal.returns-else-v-eq0
 returns-else-v-eq0 c =
@@ -27,5 +48,5 @@ returns-else-v-eq0 c =
     let v = c.args.v in
     ⊎_elim
     (λ w. absurd (not_both (lt-ltb n u w.0.taken) (sym w.1 ∙ c.if-v-eq0.false)))
-    (λ w. let z : v ≡ 0 → ⊥ = eqb-false v 0 (sym w.1 ∙ c.if-v-eq0.false) in units-last n u v w.0.left (omega arith))
+    (λ w. let z : v ≡ 0 → ⊥ = eqb-false v 0 (sym w.1 ∙ c.if-v-eq0.false) in units_last n u v w.0.left (omega arith))
     c.if-n-u.branch

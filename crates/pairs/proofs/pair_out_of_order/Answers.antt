@@ -10,26 +10,27 @@ use borrow.Author.Tests.{lt-ltb, le-ltb}
 use Rattle.rules.specs.Listing.{units_above, out_of_order}
 use Rattle.rules.proofs.Ranges.{first_le, first_is, first_none}
 use Rattle.pairs.proofs.pair_out_of_order.Goals as goal
+use Rattle.pairs.proofs.pair_out_of_order.Goals.{After-is_above}
 
 -- the first pair has none before it
-order-first : (l : List ℕ) (i : ℕ) → i < 1 → out_of_order l i ≡ false
+order_first : (l : List ℕ) (i : ℕ) → i < 1 → out_of_order l i ≡ false
 unfolding out_of_order
-order-first l i h = rw (le-ltb 0 i (omega arith))
+order_first l i h = rw (le-ltb 0 i (omega arith))
 
 -- pair i against the one before it
-order-at : (l : List ℕ) (i : ℕ) → 1 ≤ i
+order_at : (l : List ℕ) (i : ℕ) → 1 ≤ i
     → out_of_order l i ≡ not (units_above (get_or l (2 * i) 0) (get_or l (2 * i + 1) 0) (get_or l (2 * i - 2) 0) (get_or l (2 * i - 1) 0))
 unfolding out_of_order
-order-at l i h =
+order_at l i h =
     let e : 2 * (i - 1) ≡ 2 * i - 2 = omega arith in
     let f : 2 * i - 2 + 1 ≡ 2 * i - 1 = omega arith in
     rw (lt-ltb 0 i h, e, f)
 
 -- the call tells of pair i
-told : (c : goal.After-is_above)
+told : (c : After-is_above)
     → out_of_order c.args.needs.now c.loop-i.i ≡ not c.is_above.result
 told c =
-    order-at c.args.needs.now c.loop-i.i c.loop-i.invariant.0 ∙ ap not (sym c.is_above.ensures)
+    order_at c.args.needs.now c.loop-i.i c.loop-i.invariant.0 ∙ ap not (sym c.is_above.ensures)
 
 pub returns-then-pairs-eq0 : goal.returns-then-pairs-eq0
 returns-then-pairs-eq0 c =
@@ -37,7 +38,7 @@ returns-then-pairs-eq0 c =
     omega (arith, first_le (out_of_order l) (length l / 2))
 
 pub loop-i-init : goal.loop-i-init
-loop-i-init c = (search rules, search rules, order-first c.args.needs.now)
+loop-i-init c = (search rules, search rules, order_first c.args.needs.now)
 
 pub returns-then-not-is_above : goal.returns-then-not-is_above
 returns-then-not-is_above c =

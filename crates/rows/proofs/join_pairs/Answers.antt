@@ -4,12 +4,13 @@ use borrow.Author.Tests.{eqb-true, eqb-false}
 use Rattle.rules.specs.Listing.{lower}
 use Rattle.rows.proofs.UnitPairs.{pair_row, RowTo, row_to_start, row_to_more, row_to_end}
 use Rattle.rows.proofs.join_pairs.Goals as goal
+use Rattle.rows.proofs.join_pairs.Goals.{After-join_row-arg-1}
 
 -- the row that is joined, which stands before the unit's own
-joined-row : (c : goal.After-join_row-arg-1)
+joined_row : (c : After-join_row-arg-1)
     → (1 ≤ lower c.args.needs.now c.loop-j.j)
     × ((lower c.args.needs.now c.loop-j.j - 1) * c.args.k + c.args.k ≤ c.args.i * c.args.k)
-joined-row c = pair_row c.requires.pairs _ _ c.loop-j.j (omega arith) (eqb-true _ _ c.if-needs-j.true)
+joined_row c = pair_row c.requires.pairs _ _ c.loop-j.j (omega arith) (eqb-true _ _ c.if-needs-j.true)
 
 pub loop-j-init : goal.loop-j-init
 loop-j-init c = rw c.requires.from_value (row_to_start c.requires.pairs _ _ _ c.requires.by_index)
@@ -21,13 +22,13 @@ pub overflow_cast-v : goal.overflow_cast-v
 overflow_cast-v c = omega (arith, c.type_inv.needs (2 * c.loop-j.j + 1))
 
 pub overflow_sub-v : goal.overflow_sub-v
-overflow_sub-v c = (joined-row c).0
+overflow_sub-v c = (joined_row c).0
 
 pub overflow_mul-v-in-loop-j : goal.overflow_mul-v-in-loop-j
-overflow_mul-v-in-loop-j c = omega (arith, (joined-row c).1)
+overflow_mul-v-in-loop-j c = omega (arith, (joined_row c).1)
 
 pub join_row-requires : goal.join_row-requires
-join_row-requires c = (omega arith, (joined-row c).1)
+join_row-requires c = (omega arith, (joined_row c).1)
 
 pub loop-j-preserved : goal.loop-j-preserved
 loop-j-preserved c =

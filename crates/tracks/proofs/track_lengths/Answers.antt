@@ -11,23 +11,24 @@ use borrow.Author.Tests.{eq-eqb, ne_eqb}
 use Rattle.rules.specs.Listing.{in_track, size}
 use Rattle.rules.proofs.Ranges.{count_none, count_yes, count_no, count_le, table_is}
 use Rattle.tracks.proofs.track_lengths.Goals as goal
+use Rattle.tracks.proofs.track_lengths.Goals.{After-shared_slice_known-1, After-shared_slice_known-1-unread-2}
 
-track-none : (ts : List ℕ) (q : ℕ) → in_track ts q 0 ≡ 0
+track_none : (ts : List ℕ) (q : ℕ) → in_track ts q 0 ≡ 0
 unfolding in_track
-track-none ts q = count_none (λ j. eqb (get_or ts j 0) q)
+track_none ts q = count_none (λ j. eqb (get_or ts j 0) q)
 
 -- unit i + 1 is in track q, or in another
-track-next : (ts : List ℕ) (q i : ℕ) → get_or ts i 0 ≡ q → in_track ts q (i + 1) ≡ in_track ts q i + 1
+track_next : (ts : List ℕ) (q i : ℕ) → get_or ts i 0 ≡ q → in_track ts q (i + 1) ≡ in_track ts q i + 1
 unfolding in_track
-track-next ts q i e = count_yes (λ j. eqb (get_or ts j 0) q) i (eq-eqb (get_or ts i 0) q e)
+track_next ts q i e = count_yes (λ j. eqb (get_or ts j 0) q) i (eq-eqb (get_or ts i 0) q e)
 
-track-other : (ts : List ℕ) (q i : ℕ) → (get_or ts i 0 ≡ q → ⊥) → in_track ts q (i + 1) ≡ in_track ts q i
+track_other : (ts : List ℕ) (q i : ℕ) → (get_or ts i 0 ≡ q → ⊥) → in_track ts q (i + 1) ≡ in_track ts q i
 unfolding in_track
-track-other ts q i e = count_no (λ j. eqb (get_or ts j 0) q) i (ne_eqb (get_or ts i 0) q e)
+track_other ts q i e = count_no (λ j. eqb (get_or ts j 0) q) i (ne_eqb (get_or ts i 0) q e)
 
-track-le : (ts : List ℕ) (q i : ℕ) → in_track ts q i ≤ i
+track_le : (ts : List ℕ) (q i : ℕ) → in_track ts q i ≤ i
 unfolding in_track
-track-le ts q i = count_le (λ j. eqb (get_or ts j 0) q) i
+track_le ts q i = count_le (λ j. eqb (get_or ts j 0) q) i
 
 -- one more in the entry of its track
 counted_next : (ts lens : List ℕ) (i : ℕ) → length lens ≡ 32 → get_or ts i 0 < 32
@@ -39,35 +40,35 @@ counted_next ts lens i e l h q m = go (ℕ_discrete q (get_or ts i 0))
     t = get_or ts i 0
 
     go : Dec (q ≡ t) → get_or (set lens t (get_or lens t 0 + 1)) q 0 ≡ in_track ts q (i + 1)
-    go (yes p) = rw p (get_or-set_same lens t (get_or lens t 0 + 1) 0 (omega arith) ∙ omega (arith, h t l, track-next ts t i refl))
-    go (no n) = get_or-set_other lens t q (get_or lens t 0 + 1) 0 n ∙ h q m ∙ sym (track-other ts q i (λ p. n (sym p)))
+    go (yes p) = rw p (get_or-set_same lens t (get_or lens t 0 + 1) 0 (omega arith) ∙ omega (arith, h t l, track_next ts t i refl))
+    go (no n) = get_or-set_other lens t q (get_or lens t 0 + 1) 0 n ∙ h q m ∙ sym (track_other ts q i (λ p. n (sym p)))
 
 -- the track of the unit at hand is below 32
-below : (c : goal.After-shared_slice_known-1) → get_or c.args.tracks.now c.loop-i.i 0 < 32
+below : (c : After-shared_slice_known-1) → get_or c.args.tracks.now c.loop-i.i 0 < 32
 below c = c.requires.by_index c.loop-i.i c.loop-i-test.true
 
 -- the track of the unit at hand is below 32
-below-2 : (c : goal.After-shared_slice_known-1-unread-2) → get_or c.args.tracks.now c.loop-i.i 0 < 32
-below-2 c = c.requires.by_index c.loop-i.i c.loop-i-test.true
+below_2 : (c : After-shared_slice_known-1-unread-2) → get_or c.args.tracks.now c.loop-i.i 0 < 32
+below_2 c = c.requires.by_index c.loop-i.i c.loop-i-test.true
 
 pub loop-i-init : goal.loop-i-init
-loop-i-init c = (search rules, search rules, λ q l. get_or-replicate 32 q 0 0 l ∙ sym (track-none c.args.tracks.now q))
+loop-i-init c = (search rules, search rules, λ q l. get_or-replicate 32 q 0 0 l ∙ sym (track_none c.args.tracks.now q))
 
 pub overflow_cast-q : goal.overflow_cast-q
-overflow_cast-q c = omega (arith, below-2 c)
+overflow_cast-q c = omega (arith, below_2 c)
 
 pub offset_bounds-lens-q : goal.offset_bounds-lens-q
-offset_bounds-lens-q c = omega (arith, below-2 c)
+offset_bounds-lens-q c = omega (arith, below_2 c)
 
 pub bounds-lens-q : goal.bounds-lens-q
-bounds-lens-q c = below-2 c
+bounds-lens-q c = below_2 c
 
 pub overflow_add-lens : goal.overflow_add-lens
 overflow_add-lens c =
     let tracks = c.args.tracks.now in
     let i = c.loop-i.i in
     let small = c.requires.tracks_len_bound in
-    omega (arith, c.loop-i.invariant.2 (get_or tracks i 0) (below c), track-le tracks (get_or tracks i 0) i)
+    omega (arith, c.loop-i.invariant.2 (get_or tracks i 0) (below c), track_le tracks (get_or tracks i 0) i)
 
 pub offset_bounds-lens-q-in-loop-i : goal.offset_bounds-lens-q-in-loop-i
 offset_bounds-lens-q-in-loop-i c = omega (arith, below c)

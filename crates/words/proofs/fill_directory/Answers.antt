@@ -8,9 +8,10 @@ use Rattle.rules.proofs.Ranges.{length-table}
 use Rattle.rules.proofs.Overs.{length_over, over-table_none, over-table-next}
 use Rattle.rules.proofs.Bits.{ones_before_none, ones_before-next, ones_before_up}
 use Rattle.words.proofs.fill_directory.Goals as goal
+use Rattle.words.proofs.fill_directory.Goals.{At-loop-j}
 
 -- the directory keeps its length
-long : (c : goal.At-loop-j) → length c.loop-j.directory ≡ length c.args.directory.now
+long : (c : At-loop-j) → length c.loop-j.directory ≡ length c.args.directory.now
 long c =
     ap length c.loop-j.invariant.2
     ∙ length_over c.args.directory.now (table (ones_before c.args.words.now) c.loop-j.j) (rw length-table (omega arith))

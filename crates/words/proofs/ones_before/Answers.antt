@@ -12,8 +12,9 @@ use Rattle.rules.proofs.Bits.{rank_le}
 use Rattle.words.proofs.Operators.{one_shl}
 use Rattle.words.proofs.Ranks.{rank_masked}
 use Rattle.words.proofs.ones_before.Goals as goal
+use Rattle.words.proofs.ones_before.Goals.{After-shared_slice_known-2-1}
 
-counted : (c : goal.After-shared_slice_known-2-1)
+counted : (c : After-shared_slice_known-2-1)
     → (let ws = c.args.words.now in let x = c.args.x in
     get_or c.args.directory.now (x / 64) 0 + ones (bit_and (get_or ws (x / 64) 0) (1 * 2 ^ (x % 64) % 2 ^ 64 - 1)) ≡ rank ws x)
 counted c = rank_masked _ _ c.args.x (λ j. (c.type_inv.words j).fits) c.requires

@@ -10,14 +10,15 @@ use borrow.Author.Rules.{rules}
 use Rattle.rules.specs.Bits.{rank}
 use Rattle.words.proofs.Ranks.{rank_shifted}
 use Rattle.words.proofs.ones_through.Goals as goal
+use Rattle.words.proofs.ones_through.Goals.{After-shared_slice_known-2-1}
 
-counted : (c : goal.After-shared_slice_known-2-1)
+counted : (c : After-shared_slice_known-2-1)
     → (let ws = c.args.words.now in let x = c.args.x in
     get_or c.args.directory.now (x / 64) 0 + ones (get_or ws (x / 64) 0 * 2 ^ (63 - x % 64) % 2 ^ 64) ≡ rank ws (x + 1))
 counted c = rank_shifted _ _ c.args.x (λ j. (c.type_inv.words j).fits) c.requires
 
 -- a word has 64 ones at most
-few : (c : goal.After-shared_slice_known-2-1)
+few : (c : After-shared_slice_known-2-1)
     → (let ws = c.args.words.now in let x = c.args.x in
     ones (get_or ws (x / 64) 0 * 2 ^ (63 - x % 64) % 2 ^ 64) ≤ 64)
 few c = ones-le 64 _ (mod-lt _ (pow_pos 64))
