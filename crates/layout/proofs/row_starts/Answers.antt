@@ -12,19 +12,19 @@ use Rattle.layout.proofs.Rows.{starts_to, starts_in, units_in, starts_none, star
 use Rattle.layout.proofs.row_starts.Goals as goal
 use Rattle.layout.proofs.row_starts.Goals.{After-times}
 
--- TODO
-record Turn (c : tie.After-times invariant-loop decreases-loop) : Type 0 where
-  bit : get_or c.before.before.before.before.loop.row (p c) 0 ≡ offset (s c) (k c) (p c) 0
-  before : get_or c.before.before.before.before.loop.row (p c + 33) 0 ≡ sum (s c) (p c)
-  bits : c.times.result + c.before.before.before.before.before.units_of.result ≡ sum (vector_room (s c) (p c)) (k c) + 2 * c.before.wide.result
+-- what a turn reads and sums
+record Turn (c : After-times) : Type 0 where
+  bit : get_or c.loop-p.row c.loop-p.p 0 ≡ offset (lens_of c.args.lens.now) c.args.k c.loop-p.p 0
+  before : get_or c.loop-p.row (c.loop-p.p + 33) 0 ≡ sum (lens_of c.args.lens.now) c.loop-p.p
+  bits : c.times.result + c.units_of-units.result ≡ sum (vector_room (lens_of c.args.lens.now) c.loop-p.p) c.args.k + 2 * c.wide-own.result
 
 turn : (c : After-times) → Turn c
 turn c =
     let e = c.loop-p.invariant.1 in
     record {
-      bit = ap (λ l. get_or l (c.loop-p.p) 0) e ∙ starts_in ((lens_of c.args.lens.now)) (c.args.k) (c.loop-p.p) (c.loop-p.p) (omega arith) (omega arith);
-      before = ap (λ l. get_or l (c.loop-p.p + 33) 0) e ∙ units_in ((lens_of c.args.lens.now)) (c.args.k) (c.loop-p.p) (c.loop-p.p) (omega arith) (omega arith);
-      bits = omega (arith, room_past ((lens_of c.args.lens.now)) (c.loop-p.p) (c.args.k) (omega arith), ap (λ x. c.args.k * x) c.wide-own.ensures.0);
+      bit = ap (λ l. get_or l c.loop-p.p 0) e ∙ starts_in (lens_of c.args.lens.now) c.args.k c.loop-p.p c.loop-p.p (omega arith) (omega arith);
+      before = ap (λ l. get_or l (c.loop-p.p + 33) 0) e ∙ units_in (lens_of c.args.lens.now) c.args.k c.loop-p.p c.loop-p.p (omega arith) (omega arith);
+      bits = omega (arith, room_past (lens_of c.args.lens.now) c.loop-p.p c.args.k (omega arith), ap (λ x. c.args.k * x) c.wide-own.ensures.0);
     }
 
 pub loop-p-init : goal.loop-p-init
@@ -47,13 +47,13 @@ overflow_add-row-in-loop-p-3 c = omega (arith, turn c)
 pub loop-p-preserved : goal.loop-p-preserved
 loop-p-preserved c =
     let t = turn c in
-    let next : offset ((lens_of c.args.lens.now)) (c.args.k) (c.loop-p.p + 1) 0 ≡ offset ((lens_of c.args.lens.now)) (c.args.k) (c.loop-p.p) 0 + sum (vector_room ((lens_of c.args.lens.now)) (c.loop-p.p)) (c.args.k) =
-    omega (arith, offset_row ((lens_of c.args.lens.now)) (c.args.k) (c.loop-p.p), offset_add ((lens_of c.args.lens.now)) (c.args.k) (c.loop-p.p) (c.args.k)) in
-    let more : sum ((lens_of c.args.lens.now)) (c.loop-p.p + 1) ≡ sum ((lens_of c.args.lens.now)) (c.loop-p.p) + c.wide-own.result = omega (arith, sum-next ((lens_of c.args.lens.now)) (c.loop-p.p)) in
+    let next : offset (lens_of c.args.lens.now) c.args.k (c.loop-p.p + 1) 0 ≡ offset (lens_of c.args.lens.now) c.args.k c.loop-p.p 0 + sum (vector_room (lens_of c.args.lens.now) c.loop-p.p) c.args.k =
+    omega (arith, offset_row (lens_of c.args.lens.now) c.args.k c.loop-p.p, offset_add (lens_of c.args.lens.now) c.args.k c.loop-p.p c.args.k) in
+    let more : sum (lens_of c.args.lens.now) (c.loop-p.p + 1) ≡ sum (lens_of c.args.lens.now) c.loop-p.p + c.wide-own.result = omega (arith, sum-next (lens_of c.args.lens.now) c.loop-p.p) in
     let row = c.loop-p.row in
-    let bit = get_or row (c.loop-p.p) 0 + (c.times.result + c.units_of-units.result - 2 * c.wide-own.result) in
+    let bit = get_or row c.loop-p.p 0 + (c.times.result + c.units_of-units.result - 2 * c.wide-own.result) in
     let before = get_or row (c.loop-p.p + 33) 0 + c.wide-own.result in
-    let filled = starts_next ((lens_of c.args.lens.now)) (c.args.k) (c.loop-p.p) bit before (omega arith) (omega (arith, t, next)) (omega (arith, t, more)) in
+    let filled = starts_next (lens_of c.args.lens.now) c.args.k c.loop-p.p bit before (omega arith) (omega (arith, t, next)) (omega (arith, t, more)) in
     let entries = c.loop-p.invariant.1 in
     (omega arith, ap (λ l. set (set l (c.loop-p.p + 1) bit) (c.loop-p.p + 34) before) entries ∙ filled, omega (arith, t, next), omega (arith, more))
 

@@ -19,4 +19,4 @@ pub returns : goal.returns
 returns c =
     let a = c.args in
     let e : c.loop-q.q ≡ a.k = omega arith in
-    (omega (arith, ap (sum (lens_of a.lens.now)) e), omega arith)
+    record { value = omega (arith, ap (sum (lens_of a.lens.now)) e); narrow = omega arith }

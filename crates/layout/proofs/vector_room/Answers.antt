@@ -7,8 +7,8 @@ use Rattle.layout.proofs.vector_room.Goals as goal
 
 pub returns-then-p-q : goal.returns-then-p-q
 unfolding vector_room vector_bits
-returns-then-p-q c = (rw (eq-eqb _ _ c.if-p-q.true), omega arith)
+returns-then-p-q c = record { value = rw (eq-eqb _ _ c.if-p-q.true); narrow = omega arith }
 
 pub returns-else-p-q : goal.returns-else-p-q
 unfolding vector_room vector_bits
-returns-else-p-q c = (rw (ne_eqb _ _ c.if-p-q.false) (omega arith), omega arith)
+returns-else-p-q c = record { value = rw (ne_eqb _ _ c.if-p-q.false) (omega arith); narrow = omega arith }

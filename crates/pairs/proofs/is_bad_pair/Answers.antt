@@ -6,11 +6,12 @@ use mathlib.Core.Logic.{⊎_elim}
 use native.Mathlib.Omega.{arith}
 use native.Mathlib.Decide.{dec_le}
 use lib.Dec.{leb, ltb}
-use borrow.Author.Tests.{lt-ltb, lt-leb, le-leb, ltb-true, eqb-true, eqb-false, not-false}
+use borrow.Author.Tests.{lt-ltb, lt-leb, le-leb, ltb-true, eq-eqb, not-false}
 use Rattle.rules.specs.Listing.{within, bad_units}
 use Rattle.rules.proofs.Ranges.{not_both}
 use Rattle.rules.proofs.Verdicts.{and_both, within_is, is_within, not_no}
 use Rattle.pairs.proofs.is_bad_pair.Goals as goal
+use Rattle.pairs.proofs.is_bad_pair.Goals.{then-n-u, else-n-u}
 
 module _ (n u v : ℕ) where
   units_good : u ≤ n → 1 ≤ v → v < u → bad_units n u v ≡ false
@@ -35,18 +36,12 @@ module _ (n u v : ℕ) where
 
 pub returns-then-v-eq0 : goal.returns-then-v-eq0
 returns-then-v-eq0 c =
-    let n = c.args.n in
-    let u = c.args.u in
-    let v = c.args.v in
-    c.if-v-eq0.true
-    ∙ sym (units_bad n u v (λ a b d. ⊎_elim (λ w. omega arith) (λ w. omega (arith, eqb-true v 0 (sym w.1 ∙ c.if-v-eq0.true))) c.if-n-u.branch))
+    let a = c.args in
+    let bad : bad_units a.n a.u a.v ≡ true = units_bad a.n a.u a.v (λ x y d. ⊎_elim (λ l. omega arith) (λ r. omega (arith, r.1)) c.if-v-eq0.either) in
+    elim c.if-n-u.branch [
+      | then-n-u w ↦ w.t-5-is ∙ lt-ltb a.n a.u w.if-n-u.true ∙ sym bad
+      | else-n-u w ↦ w.t-5-is ∙ ⊎_elim (λ l. absurd (omega arith)) (λ r. eq-eqb a.v 0 r.1) c.if-v-eq0.either ∙ sym bad
+    ]
 
 pub returns-else-v-eq0 : goal.returns-else-v-eq0
-returns-else-v-eq0 c =
-    let n = c.args.n in
-    let u = c.args.u in
-    let v = c.args.v in
-    ⊎_elim
-    (λ w. absurd (not_both (lt-ltb n u w.0.taken) (sym w.1 ∙ c.if-v-eq0.false)))
-    (λ w. let z : v ≡ 0 → ⊥ = eqb-false v 0 (sym w.1 ∙ c.if-v-eq0.false) in units_last n u v w.0.left (omega arith))
-    c.if-n-u.branch
+returns-else-v-eq0 c = let z = c.if-v-eq0.false.1 in units_last c.args.n c.args.u c.args.v c.if-v-eq0.false.0 (omega arith)

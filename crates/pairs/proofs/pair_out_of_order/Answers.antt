@@ -43,11 +43,11 @@ loop-i-init c = (search rules, search rules, order_first c.args.needs.now)
 pub returns-then-not-is_above : goal.returns-then-not-is_above
 returns-then-not-is_above c =
     let l = c.args.needs.now in
-    sym (first_is (out_of_order l) (length l / 2) c.loop-i.i c.loop-i-test.true c.loop-i.invariant.2 (told (goal.at.returns-then-not-is_above c).After-is_above ∙ c.if-not-is_above.true))
+    sym (first_is (out_of_order l) (length l / 2) c.loop-i.i c.loop-i-test.true c.loop-i.invariant.2 (told (goal.at.returns-then-not-is_above c).After-is_above ∙ ap not c.if-not-is_above.true))
 
 pub loop-i-preserved : goal.loop-i-preserved
 loop-i-preserved c =
-    (search rules, search rules, below_more _ _ c.loop-i.invariant.2 (told (goal.at.loop-i-preserved c).After-is_above ∙ c.if-not-is_above.false))
+    (search rules, search rules, below_more _ _ c.loop-i.invariant.2 (told (goal.at.loop-i-preserved c).After-is_above ∙ ap not c.if-not-is_above.false))
 
 pub returns : goal.returns
 returns c =

@@ -42,7 +42,11 @@ pub word_of_zero-j-requires : goal.word_of_zero-j-requires
 word_of_zero-j-requires c =
     let a = c.args in
     let last = (true_at _ _ _ _ c.requires.covers ((a.off + a.m - 1) / 64) (omega arith) (omega arith)).entry in
-    ((omega arith, last, omega arith), (entry_low c, first_word (sought c)))
+    record {
+      lo_le_hi = (omega arith, last, omega arith);
+      by_index = entry_low c;
+      lo_bound = first_word (sought c)
+    }
 
 pub bounds-words-j : goal.bounds-words-j
 bounds-words-j c = (found (goal.at.bounds-words-j c).After-word_of_zero-j).word
