@@ -3,21 +3,19 @@
 use Prim.Native.Nat.{ℕ, ◌+◌, ◌-◌, ◌≤◌, ◌<◌}
 use mathlib.Core.Path.{◌≡◌, sym, ◌∙◌}
 use mathlib.Core.List.{List, [], ◌++◌, append-nil}
-use mathlib.Core.Logic.{⊎_elim}
 use native.Mathlib.Omega.{arith}
-use lib.ListN.{length, take, drop, length-drop, drop_of_length-le}
+use lib.ListN.{length, get_or, take, drop, length-drop, drop_of_length-le}
 use lib.Seq.{take_all}
-use borrow.Author.Tests.{le-leb, lt-leb, ltb-true, ltb-false}
+use borrow.Author.Tests.{le-leb, lt-leb}
 use Rattle.rules.specs.declared.Refusal.TheVariants.{ShortList}
 use Rattle.rules.specs.declared.NumberAnswer.TheVariants.{Number, Refused}
-use Rattle.rules.specs.Ranges.{over}
+use Rattle.rules.specs.Ranges.{over, sum}
 use Rattle.rules.specs.Outcomes.{list_room, written_from, list_answer}
 use Rattle.rules.proofs.Ranges.{units_most}
-use Rattle.lists.specs.Spans.{in_spans, spanned, listed}
+use Rattle.lists.specs.Spans.{in_spans, spanned, listed, Tracks, Held}
 use Rattle.lists.proofs.Spans.{tracks_wide, spanned-count}
-use borrow.Author.Rules.{rules}
 use Rattle.lists.proofs.answer_list.Goals as goal
-use Rattle.lists.proofs.answer_list.Goals.{After-span_count-count, Else-list-place-2}
+use Rattle.lists.proofs.answer_list.Goals.{then-list-place-via-then-list-place, then-list-place-via-else-list-place+then-list-place-2}
 
 -- the part from a place on is the rest of the list
 rest : (list : List ℕ) (at : ℕ) → take (length list - at) (drop at list) ≡ drop at list
@@ -40,41 +38,37 @@ module _ (units list : List ℕ) (at n : ℕ) (e : n ≡ length units) where
   unfolding list_answer list_room
   short h = rw (lt-leb (at + length units) (length list) (omega arith), e)
 
--- the count is that of the units in the spans
-count_is : (c : After-span_count-count)
-    → let a = c.args in c.span_count-count.result ≡ length (spanned a.from.now a.to.now a.tracks.now)
-count_is c =
-    let p = c.requires in
-    c.span_count-count.ensures ∙ sym (spanned-count p.0 p.1)
+module _ {from to ts : List ℕ} {k n : ℕ} (t : Tracks ts k) (h : Held from to ts k) (s : n ≡ sum (λ q. get_or to q 0 + 1 - get_or from q 0) k) where
+  -- the count is that of the units in the spans
+  count_is : n ≡ length (spanned from to ts)
+  count_is = s ∙ sym (spanned-count t h)
 
--- at most as many as the track list has
-count_few : (c : After-span_count-count) → c.span_count-count.result ≤ 1024
-count_few c =
-    omega (arith, count_is c, units_most (in_spans c.args.from.now c.args.to.now c.args.tracks.now) (length c.args.tracks.now), c.requires.tracks.few_units)
-
--- what the test lets through has room
-room : (c : Else-list-place-2)
-    → let a = c.args in a.place + c.span_count-count.result ≤ length a.list.now
-room c = omega (arith, ltb-false)
+  -- at most as many as the track list has
+  count_few : n ≤ 1024
+  count_few = omega (arith, count_is, units_most (in_spans from to ts) (length ts), t.few_units)
 
 pub overflow_cast-result : goal.overflow_cast-result
-overflow_cast-result c = omega (arith, count_few (goal.at.overflow_cast-result c).After-span_count-count)
+overflow_cast-result c = omega (arith, count_few c.requires.tracks c.requires.held c.span_count-count.ensures)
 
 pub returns-then-list-place : goal.returns-then-list-place
 returns-then-list-place c =
     let a = c.args in
-    short (spanned a.from.now a.to.now a.tracks.now) a.list.now a.place c.span_count-count.result (count_is (goal.at.returns-then-list-place c).After-span_count-count) (⊎_elim (λ w. omega arith) (λ w. omega (arith, ltb-true)) c.then-list-place.branch)
+    short (spanned a.from.now a.to.now a.tracks.now) a.list.now a.place c.span_count-count.result (count_is c.requires.tracks c.requires.held c.span_count-count.ensures)
+    (elim c.then-list-place.branch [
+      | then-list-place-via-then-list-place w ↦ omega arith
+      | then-list-place-via-else-list-place+then-list-place-2 w ↦ omega arith
+    ])
 
 pub write_units-requires : goal.write_units-requires
-write_units-requires c =
-    let a = c.args in
-    (tracks_wide c.requires.tracks, (count_is (goal.at.write_units-requires c).After-span_count-count, rw (rest a.list.now a.place, length-drop) (omega (arith, room (goal.at.write_units-requires c).Else-list-place-2))))
+write_units-requires c = record {
+  tracks = tracks_wide c.requires.tracks;
+  count_value = (count_is c.requires.tracks c.requires.held c.span_count-count.ensures, rw (rest c.args.list.now c.args.place, length-drop) (omega arith));
+}
 
 pub overflow_cast-result-2 : goal.overflow_cast-result-2
-overflow_cast-result-2 c = omega (arith, count_few (goal.at.overflow_cast-result-2 c).After-span_count-count)
+overflow_cast-result-2 c = omega (arith, count_few c.requires.tracks c.requires.held c.span_count-count.ensures)
 
 pub returns : goal.returns
 returns c =
     let a = c.args in
-    let w = c.write_units in
-    answered (spanned a.from.now a.to.now a.tracks.now) a.list.now a.place c.span_count-count.result (count_is (goal.at.returns c).After-span_count-count) w.new.1.1.1.1.0 w.ensures (room (goal.at.returns c).Else-list-place-2)
+    answered (spanned a.from.now a.to.now a.tracks.now) a.list.now a.place c.span_count-count.result (count_is c.requires.tracks c.requires.held c.span_count-count.ensures) c.write_units.new.list c.write_units.ensures (omega arith)

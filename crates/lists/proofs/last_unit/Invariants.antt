@@ -1,13 +1,9 @@
 -- `lists::last_unit` meets its contract. The loop's invariant: the units below v were seen, and the highest of them in the spans is known.
 -- Assumes nothing.
-use Prim.Native.Nat.{◌+◌, ◌-◌, ◌≤◌, ◌<◌}
-use mathlib.Core.Path.{◌≡◌, sym, ◌∙◌}
-use mathlib.Core.Logic.{⊎_elim}
-use native.Mathlib.Omega.{arith}
-use lib.ListN.{get_or}
-use borrow.Author.Rules.{rules}
-use Rattle.lists.specs.Spans.{in_spans, last_spanned}
-use Rattle.lists.proofs.Spans.{Seen, seen_none, seen_le, seen_next, spans_seen, last_none, last_yes, last_no}
+use Prim.Native.Nat.{◌-◌, ◌≤◌}
+use mathlib.Core.Path.{◌≡◌}
+use Rattle.lists.specs.Spans.{last_spanned}
+use Rattle.lists.proofs.Spans.{Seen}
 use Rattle.lists.proofs.last_unit.Given as goal
 
 abbrev pub invariant-loop-v : goal.invariant-loop-v

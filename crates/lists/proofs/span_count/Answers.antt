@@ -1,9 +1,8 @@
-use Prim.Native.Nat.{ℕ, ◌+◌, ◌-◌, ◌*◌, ◌≤◌}
+-- The track passed adds what its span holds; at the end all k tracks are passed.
+use Prim.Native.Nat.{ℕ, ◌+◌, ◌-◌}
 use mathlib.Core.Path.{◌≡◌, sym}
 use native.Mathlib.Omega.{arith}
 use lib.ListN.{get_or}
-use borrow.Author.Rules.{rules}
-use Rattle.rules.specs.Ranges.{sum}
 use Rattle.rules.proofs.Ranges.{sum_none, sum-next}
 use Rattle.lists.proofs.span_count.Goals as goal
 

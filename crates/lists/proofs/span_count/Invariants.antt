@@ -1,12 +1,9 @@
 -- `lists::span_count` meets its contract. The loop's invariant: the count is the sum over the tracks passed, at most 65,536 for each.
 -- Assumes nothing.
-use Prim.Native.Nat.{ℕ, ◌+◌, ◌-◌, ◌*◌, ◌≤◌}
-use mathlib.Core.Path.{◌≡◌, sym}
-use native.Mathlib.Omega.{arith}
+use Prim.Native.Nat.{◌+◌, ◌-◌, ◌*◌, ◌≤◌}
+use mathlib.Core.Path.{◌≡◌}
 use lib.ListN.{get_or}
-use borrow.Author.Rules.{rules}
 use Rattle.rules.specs.Ranges.{sum}
-use Rattle.rules.proofs.Ranges.{sum_none, sum-next}
 use Rattle.lists.proofs.span_count.Given as goal
 
 abbrev pub invariant-loop-q : goal.invariant-loop-q

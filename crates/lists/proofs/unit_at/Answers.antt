@@ -1,11 +1,13 @@
-use Prim.Native.Nat.{ℕ, zero, suc, ◌+◌, ◌-◌, ◌≤◌, ◌<◌}
+-- A unit of the track is one more seen, any other none; where the one more makes i, it stands at position i, and no later one does.
+use Prim.Native.Nat.{ℕ, zero, suc, ◌+◌, ◌<◌}
 use mathlib.Core.Path.{◌≡◌, refl, sym, ◌∙◌}
-use mathlib.Core.Logic.{◌⊎◌, inl, inr, ⊎_elim}
+use mathlib.Core.Logic.{◌⊎◌, inl, inr}
 use native.Mathlib.Omega.{arith}
 use lib.ListN.{length, get_or}
-use Rattle.rules.specs.Listing.{track, in_track, size, position}
+use Rattle.rules.specs.Listing.{track, size, position}
 use Rattle.rules.proofs.Tracks.{in_none, in_own, in_other, in_le, track-next, unit_is, unit_none}
 use Rattle.lists.proofs.unit_at.Goals as goal
+use Rattle.lists.proofs.unit_at.Goals.{then-tracks-j+else-seen-i, else-tracks-j}
 
 zero_or_more : (i : ℕ) → (i ≡ 0) ⊎ (0 < i)
 zero_or_more zero = inl refl
@@ -37,14 +39,11 @@ loop-j-preserved c =
     let ts = c.args.tracks.now in
     let q = c.args.q in
     let i = c.loop-j.invariant in
-    ⊎_elim
-    (λ w.
-    let s : c.if-tracks-j.seen ≡ c.loop-j.seen + 1 = w.2 in
-    (omega arith, omega (arith, in_own ts q c.loop-j.j w.0.taken), rw s (not_yet i.2 w.1.left)))
-    (λ w.
-    let s : c.if-tracks-j.seen ≡ c.loop-j.seen = w.1 in
-    (omega arith, omega (arith, in_other ts q c.loop-j.j w.0.left), rw s i.2))
-    c.if-tracks-j.branch
+    elim c.if-tracks-j.branch [
+      | then-tracks-j+else-seen-i w ↦
+          (omega arith, omega (arith, in_own ts q c.loop-j.j w.if-tracks-j.true, w.seen-is), rw w.seen-is (not_yet i.2 w.if-seen-i.false))
+      | else-tracks-j w ↦ (omega arith, omega (arith, in_other ts q c.loop-j.j w.if-tracks-j.false, w.seen-is), rw w.seen-is i.2)
+    ]
 
 pub returns : goal.returns
 returns c =

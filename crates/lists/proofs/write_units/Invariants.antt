@@ -1,13 +1,8 @@
 -- `lists::write_units` meets its contract. The loop's invariant: the units up to i were seen, and those of them in the spans are written.
 -- Assumes nothing.
-use Prim.Native.Nat.{◌+◌, ◌-◌, ◌≤◌, ◌<◌}
-use mathlib.Core.Path.{◌≡◌, refl, sym, ◌∙◌}
-use mathlib.Core.Logic.{⊎_elim}
-use native.Mathlib.Omega.{arith}
-use lib.ListN.{length, get_or}
-use borrow.Author.Rules.{rules}
-use Rattle.lists.specs.Spans.{in_spans, spanned}
-use Rattle.lists.proofs.Spans.{Seen, seen_none, seen_le, seen_next, spans_seen, Written, written_none, written_more, written_all, written_length, written_room, written_yes, written_no}
+use Prim.Native.Nat.{◌-◌, ◌≤◌}
+use lib.ListN.{length}
+use Rattle.lists.proofs.Spans.{Seen, Written}
 use Rattle.lists.proofs.write_units.Given as goal
 
 abbrev pub invariant-loop-done : goal.invariant-loop-done
