@@ -1,4 +1,6 @@
 // Answers printed into a lent line area: each call fills the start of the area, keeps the rest, and answers how many bytes it wrote.
+#![tactic(auto)]
+
 ghost use Rattle.std.specs.Prelude.{◌+◌, ◌*◌, ◌≤◌, ◌<◌, ◌≡◌, length};
 ghost use Rattle.rules.specs.Ranges.{over};
 ghost use Rattle.answers.specs.Printed.{hex_digit, hex_of, built_line, refused_line, pair_line, number_line, units_of, list_line};

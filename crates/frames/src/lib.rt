@@ -1,4 +1,6 @@
 // Lines of a course file read as frames.
+#![tactic(auto)]
+
 ghost use Rattle.std.specs.Prelude.{◌≤◌, ◌≡◌, length};
 ghost use Rattle.frames.specs.Lines.{digit_of, four_of, numbers_of, line_of};
 

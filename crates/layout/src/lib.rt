@@ -1,4 +1,6 @@
 // Where the vectors stand among the bits, from the lengths of the tracks.
+#![tactic(auto)]
+
 ghost use Rattle.std.specs.Prelude.{◌+◌, ◌-◌, ◌*◌, ◌≤◌, ◌<◌, ◌≡◌, ltb};
 ghost use Rattle.rules.specs.Ranges.{sum, bit1};
 ghost use Rattle.rules.specs.Layout.{vector_room, offset};

@@ -1,5 +1,5 @@
 -- Units by a span of positions in each track.
-use Rattle.std.specs.Prelude.{ℕ, ◌+◌, ◌≤◌, ◌<◌, Bool, cond, ◌&&◌, List, length, get_or, leb}
+use Rattle.std.specs.Prelude.{ℕ, ◌≤◌, ◌<◌, Bool, cond, ◌&&◌, List, length, get_or, leb}
 use Rattle.rules.specs.declared.NumberAnswer.{NumberAnswer}
 use Rattle.rules.specs.Ranges.{greatest}
 use Rattle.rules.specs.Listing.{track, size, position}

@@ -1,4 +1,6 @@
 // Units by a span of positions in each track: counted, written ascending into a lent list, or found one by one.
+#![tactic(auto)]
+
 ghost use Rattle.std.specs.Prelude.{◌+◌, ◌-◌, ◌≤◌, ◌<◌, ◌≡◌, length, get_or};
 ghost use Rattle.rules.specs.Ranges.{sum, over};
 ghost use Rattle.rules.specs.Listing.{within};

@@ -1,4 +1,6 @@
 // The pairs of a need list: counted, and refusals 4 and 5 in the order of their numbers.
+#![tactic(auto)]
+
 ghost use Rattle.std.specs.Prelude.{◌≤◌, ◌≡◌};
 ghost use Rattle.rules.specs.Ranges.{first};
 ghost use Rattle.rules.specs.Listing.{pairs, counted_needs, bad_units, bad_pair, units_above, out_of_order, pairs_verdict};

@@ -1,12 +1,12 @@
 -- Laws of an area whose first entries are written (`over`): its entries, one entry or a part written more, a table written entry by entry.
 -- Assumes nothing.
 use Prim.Native.Nat.{ℕ, suc, ◌+◌, ◌-◌, ◌≤◌, ◌<◌}
-use mathlib.Core.Path.{◌≡◌, refl, sym, ap, ◌∙◌, subst}
+use mathlib.Core.Path.{◌≡◌, refl, sym, ◌∙◌}
 use mathlib.Core.List.{List, [], ◌∷◌, ◌++◌, append-nil, append_assoc}
 use native.Mathlib.Omega.{arith}
 use native.Mathlib.Numerals.{add-one}
 use lib.ListN.{length, get_or, set, take, drop, length-append, length-drop, drop_of_length-le, get_or-append}
-use lib.Seq.{drop-cons, drop-drop, drop-append-add, drop-length, set_at, take_all, take_at, drop_at}
+use lib.Seq.{drop-cons, drop-drop, drop-length, set_at, take_all, take_at, drop_at}
 use borrow.Rule.Slice.PartMut.{mid_of, put_mid}
 use Rattle.rules.specs.Ranges.{table, over}
 use Rattle.rules.proofs.Ranges.{length-table, table-next}

@@ -1,18 +1,13 @@
 -- What a build writes depends on the listing's needs alone: another need list with the same needs, filed with the same tracks, builds the
 -- same index bit for bit. Assumes nothing.
-use Prim.Native.Nat.{ℕ, ◌+◌, ◌-◌, ◌*◌, ◌<◌}
-use mathlib.Core.Path.{◌≡◌, refl, sym, ap, ◌∙◌}
-use mathlib.Core.Bool.{Bool, cond, not, ◌&&◌}
+use Prim.Native.Nat.{ℕ, ◌+◌, ◌*◌}
+use mathlib.Core.Path.{◌≡◌, ap}
 use mathlib.Core.List.{List}
-use lib.ListN.{get_or}
-use lib.Dec.{ltb, eqb}
-use Rattle.rules.specs.declared.Refusal.TheVariants.{UnsoundTrack}
-use Rattle.rules.specs.Ranges.{bit1, sum, some, greatest, table, rows}
-use Rattle.rules.specs.Listing.{Listing, listing, track, size, position, refuse_first}
+use Rattle.rules.specs.Ranges.{bit1}
+use Rattle.rules.specs.Listing.{listing, refuse_first}
 use Rattle.rules.specs.Order.{needs, unit_before, unsound, sound_verdict, low}
-use Rattle.rules.specs.Layout.{offset}
-use Rattle.rules.specs.Bits.{word_of, ones_before}
-use Rattle.rules.specs.Index.{one_at, built_bit, built_words, built_directory, built_head, built_work, built_bits, built_index}
+use Rattle.rules.specs.Bits.{word_of}
+use Rattle.rules.specs.Index.{one_at, built_bit, built_words, built_directory, built_work}
 use Rattle.rules.proofs.Ranges.{greatest_same, some_same, sum_same, table_same, first_same, rows_same}
 
 module _ (n k : ℕ) (ts l m : List ℕ) (same : (u v : ℕ) → needs l u v ≡ needs m u v) where

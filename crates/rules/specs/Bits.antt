@@ -1,5 +1,5 @@
 -- Bits in 64-bit words, ones before a bit or a word, and the place of the i-th 1 and the i-th 0.
-use Rattle.std.specs.Prelude.{ℕ, suc, ◌+◌, ◌-◌, ◌*◌, ◌/◌, ◌%◌, ◌^◌, List, get_or, leb}
+use Rattle.std.specs.Prelude.{ℕ, suc, ◌-◌, ◌*◌, ◌/◌, ◌%◌, ◌^◌, List, get_or, leb}
 use Rattle.std.specs.Int.Count.{ones}
 use Rattle.rules.specs.Ranges.{sum, first}
 

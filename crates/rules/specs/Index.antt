@@ -1,5 +1,5 @@
 -- The index: what a build writes, when an index is whole, and low and high read off any index by the two formulas.
-use Rattle.std.specs.Prelude.{ℕ, zero, suc, ◌+◌, ◌-◌, ◌*◌, ◌/◌, Bool, true, false, cond, not, ◌&&◌, List, [], ◌∷◌, length, get_or, leb, ltb, eqb}
+use Rattle.std.specs.Prelude.{ℕ, suc, ◌+◌, ◌-◌, ◌*◌, Bool, true, false, cond, not, ◌&&◌, List, [], ◌∷◌, length, get_or, leb, ltb, eqb}
 use Rattle.rules.specs.declared.Head.{Head}
 use Rattle.rules.specs.Limits.{max_units, max_tracks}
 use Rattle.rules.specs.Ranges.{sum, bit1, some, every, table, rows}

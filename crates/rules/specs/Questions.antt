@@ -1,5 +1,5 @@
 -- Kinds 10 to 18, as functions of low and high, and so of any index.
-use Rattle.std.specs.Prelude.{ℕ, suc, ◌+◌, Bool, cond, ◌&&◌, List, length, get_or, leb, ltb, eqb}
+use Rattle.std.specs.Prelude.{ℕ, suc, Bool, cond, ◌&&◌, List, length, get_or, leb, ltb, eqb}
 use Rattle.rules.specs.Ranges.{every, keep, greatest}
 use Rattle.rules.specs.Listing.{track, in_track, position}
 use Rattle.rules.specs.Order.{stage}

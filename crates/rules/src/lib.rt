@@ -1,4 +1,6 @@
 // What every other crate speaks of: the limits, the head of an index, and the numbered refusals.
+#![tactic(auto)]
+
 ghost use Rattle.std.specs.Prelude.{max, ◌≡◌};
 ghost use Rattle.rules.specs.Limits.{limits};
 ghost use Rattle.rules.specs.Refusals.{number_of, place_of};

@@ -1,4 +1,6 @@
 // The stages of all units of a course, in one pass over its listed needs.
+#![tactic(auto)]
+
 ghost use Rattle.std.specs.Prelude.{◌≤◌, ◌≡◌, length};
 ghost use Rattle.rules.specs.declared.Verdict.TheVariants.{Fine};
 ghost use Rattle.rules.specs.Ranges.{table};

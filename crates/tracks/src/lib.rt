@@ -1,4 +1,6 @@
 // The track list of a listing: its first entry that is no track, the length of each track, and the first track without a unit.
+#![tactic(auto)]
+
 ghost use Rattle.std.specs.Prelude.{ℕ, ◌≤◌, ◌<◌, ◌≡◌, length, get_or, leb, eqb};
 ghost use Rattle.rules.specs.Ranges.{first, greatest, table};
 ghost use Rattle.rules.specs.Listing.{size};

@@ -1,4 +1,6 @@
 // Bits in u64 words, counted from the lowest; a directory with the ones before each word; ranks and places by it.
+#![tactic(auto)]
+
 ghost use Rattle.std.specs.Prelude.{ℕ, ◌+◌, ◌-◌, ◌*◌, ◌/◌, ◌%◌, ◌^◌, ◌≤◌, ◌<◌, ◌≡◌, length, get_or};
 ghost use Rattle.std.specs.Int.Count.{ones};
 ghost use Rattle.rules.specs.Ranges.{sum, table, over};

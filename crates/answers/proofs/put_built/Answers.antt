@@ -6,7 +6,6 @@ use lib.ListN.{length}
 use Rattle.rules.proofs.Overs.{length_over, part_back_next}
 use Rattle.answers.specs.Printed.{hex_of, built_line}
 use Rattle.answers.proofs.Lengths.{length_hex, length_built}
-use borrow.Author.Rules.{rules}
 use Rattle.answers.proofs.put_built.Goals as goal
 
 pub returns : goal.returns

@@ -1,8 +1,7 @@
-use Prim.Native.Nat.{◌-◌, ◌≤◌, suc}
+use Prim.Native.Nat.{◌-◌, suc}
 use mathlib.Core.Path.{◌≡◌, refl, sym, ◌∙◌}
-use mathlib.Core.List.{◌++◌}
 use native.Mathlib.Omega.{arith}
-use lib.ListN.{length, take, drop, length-set}
+use lib.ListN.{length-set}
 use Rattle.rules.specs.Ranges.{over}
 use Rattle.rules.proofs.Overs.{length_over, get_d_over}
 use Rattle.answers.specs.Printed.{hex_of}

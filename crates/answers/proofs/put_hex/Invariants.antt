@@ -1,15 +1,11 @@
 -- `answers::put_hex`: from the last digit to the first. Up to i the area is as it was, from i on as it is to be,
 -- and the digits still to be written are those of y. Assumes nothing.
-use Prim.Native.Nat.{◌-◌, ◌≤◌, suc}
-use mathlib.Core.Path.{◌≡◌, refl, sym, ◌∙◌}
+use Prim.Native.Nat.{◌≤◌}
+use mathlib.Core.Path.{◌≡◌}
 use mathlib.Core.List.{◌++◌}
-use native.Mathlib.Omega.{arith}
-use lib.ListN.{length, take, drop, length-set}
+use lib.ListN.{length, take, drop}
 use Rattle.rules.specs.Ranges.{over}
-use Rattle.rules.proofs.Overs.{length_over, get_d_over}
 use Rattle.answers.specs.Printed.{hex_of}
-use Rattle.answers.proofs.Lengths.{length_hex}
-use Rattle.answers.proofs.Digits.{hex_last, hex_before, hex_whole, back_none, back_next}
 use Rattle.answers.proofs.put_hex.Given as goal
 
 abbrev pub invariant-loop-i : goal.invariant-loop-i

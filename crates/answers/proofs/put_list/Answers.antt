@@ -7,7 +7,6 @@ use lib.ListN.{length}
 use Rattle.rules.proofs.Overs.{length_over, part_back_next}
 use Rattle.answers.specs.Printed.{hex_of, units_of, list_line}
 use Rattle.answers.proofs.Lengths.{length_hex, length_units, length_list}
-use borrow.Author.Rules.{rules}
 use Rattle.answers.proofs.put_list.Goals as goal
 
 pub returns : goal.returns

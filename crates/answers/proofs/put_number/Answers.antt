@@ -5,7 +5,6 @@ use native.Mathlib.Omega.{arith}
 use Rattle.answers.specs.Printed.{hex_of, number_line}
 use Rattle.answers.proofs.Lengths.{length_hex, length_number, length-refused}
 use Rattle.rules.proofs.Overs.{over-next}
-use borrow.Author.Rules.{rules}
 use Rattle.answers.proofs.put_number.Goals as goal
 
 pub returns-in-Number : goal.returns-in-Number

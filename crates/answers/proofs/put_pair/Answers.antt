@@ -3,7 +3,6 @@
 use mathlib.Core.Path.{refl, sym, ◌∙◌}
 use Rattle.answers.specs.Printed.{pair_line}
 use Rattle.answers.proofs.Lengths.{length-refused}
-use borrow.Author.Rules.{rules}
 use Rattle.answers.proofs.put_pair.Goals as goal
 
 pub returns-in-Yes : goal.returns-in-Yes

@@ -6,7 +6,6 @@ use lib.ListN.{length}
 use Rattle.rules.proofs.Overs.{length_over, part_back_next}
 use Rattle.answers.specs.Printed.{hex_of, decimal_of, refused_line}
 use Rattle.answers.proofs.Lengths.{length_hex, length-refused}
-use borrow.Author.Rules.{rules}
 use Rattle.answers.proofs.put_refused.Goals as goal
 
 pub returns : goal.returns

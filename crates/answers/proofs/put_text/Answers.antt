@@ -1,10 +1,8 @@
-use Prim.Native.Nat.{◌-◌, ◌≤◌}
 use mathlib.Core.Path.{◌≡◌, refl, ◌∙◌}
 use native.Mathlib.Omega.{arith}
 use native.Mathlib.Numerals.{add-one}
 use lib.ListN.{length, take, length-set}
 use lib.Seq.{length-take-le, take-length, take-suc}
-use Rattle.rules.specs.Ranges.{over}
 use Rattle.rules.proofs.Overs.{over_none, over-next}
 use Rattle.answers.proofs.put_text.Goals as goal
 

@@ -1,13 +1,9 @@
 -- `answers::put_text`: after i turns the first i bytes are written.
 -- Assumes nothing.
 use Prim.Native.Nat.{◌-◌, ◌≤◌}
-use mathlib.Core.Path.{◌≡◌, refl, ◌∙◌}
-use native.Mathlib.Omega.{arith}
-use native.Mathlib.Numerals.{add-one}
-use lib.ListN.{length, take, length-set}
-use lib.Seq.{length-take-le, take-length, take-suc}
+use mathlib.Core.Path.{◌≡◌}
+use lib.ListN.{length, take}
 use Rattle.rules.specs.Ranges.{over}
-use Rattle.rules.proofs.Overs.{over_none, over-next}
 use Rattle.answers.proofs.put_text.Given as goal
 
 abbrev pub invariant-loop-i : goal.invariant-loop-i

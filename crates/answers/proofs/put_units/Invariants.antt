@@ -1,16 +1,10 @@
 -- `answers::put_units`: after i turns the first i units are written.
 -- Assumes nothing.
-use Prim.Native.Nat.{◌+◌, ◌-◌, ◌*◌, ◌≤◌}
-use mathlib.Core.Path.{◌≡◌, refl, sym, ap, ◌∙◌}
-use mathlib.Core.List.{[], ◌∷◌, ◌++◌}
-use native.Mathlib.Omega.{arith}
-use lib.ListN.{length, get_or, set, take, length-append, length-take, length-drop, length-set}
-use lib.Seq.{length-take-le, take-length}
+use Prim.Native.Nat.{◌-◌, ◌≤◌}
+use mathlib.Core.Path.{◌≡◌}
+use lib.ListN.{length, take}
 use Rattle.rules.specs.Ranges.{over}
-use Rattle.rules.proofs.Overs.{length_over, over_none, part_back}
-use Rattle.answers.specs.Printed.{units_of, hex_of}
-use Rattle.answers.proofs.Lengths.{length_units}
-use Rattle.answers.proofs.Digits.{text_none, text_next, text_space, length_before}
+use Rattle.answers.specs.Printed.{units_of}
 use Rattle.answers.proofs.put_units.Given as goal
 
 abbrev pub invariant-loop-i : goal.invariant-loop-i

@@ -1,14 +1,13 @@
-use Prim.Native.Nat.{ℕ, ◌+◌, ◌-◌, ◌*◌, ◌≤◌}
+use Prim.Native.Nat.{◌+◌, ◌-◌, ◌*◌}
 use mathlib.Core.Path.{◌≡◌, ap, ◌∙◌}
 use native.Mathlib.Omega.{arith}
 use lib.ListN.{get_or, set}
-use borrow.Author.Rules.{rules}
 use Rattle.rules.specs.Ranges.{sum}
 use Rattle.rules.specs.Layout.{vector_room, offset}
 use Rattle.rules.specs.Index.{lens_of}
 use Rattle.rules.proofs.Ranges.{sum_none, sum-next}
 use Rattle.rules.proofs.Layouts.{offset-start, offset_row, offset_add, room_past}
-use Rattle.layout.proofs.Rows.{starts_to, starts_in, units_in, starts_none, starts_next, starts_all}
+use Rattle.layout.proofs.Rows.{starts_in, units_in, starts_none, starts_next, starts_all}
 use Rattle.layout.proofs.row_starts.Goals as goal
 use Rattle.layout.proofs.row_starts.Goals.{After-times}
 

@@ -1,15 +1,10 @@
 -- `layout::row_starts`: after p turns the rows below p are summed, and no row is wider than 2 ^ 22 bits. Assumes nothing.
-use Prim.Native.Nat.{ℕ, ◌+◌, ◌-◌, ◌*◌, ◌≤◌}
-use mathlib.Core.Path.{◌≡◌, ap, ◌∙◌}
-use native.Mathlib.Omega.{arith}
-use lib.ListN.{get_or, set}
-use borrow.Author.Rules.{rules}
+use Prim.Native.Nat.{◌-◌, ◌*◌, ◌≤◌}
+use mathlib.Core.Path.{◌≡◌}
 use Rattle.rules.specs.Ranges.{sum}
-use Rattle.rules.specs.Layout.{vector_room, offset}
+use Rattle.rules.specs.Layout.{offset}
 use Rattle.rules.specs.Index.{lens_of}
-use Rattle.rules.proofs.Ranges.{sum_none, sum-next}
-use Rattle.rules.proofs.Layouts.{offset-start, offset_row, offset_add, room_past}
-use Rattle.layout.proofs.Rows.{starts_to, starts_in, units_in, starts_none, starts_next, starts_all}
+use Rattle.layout.proofs.Rows.{starts_to}
 use Rattle.layout.proofs.row_starts.Given as goal
 
 abbrev pub invariant-loop-p : goal.invariant-loop-p

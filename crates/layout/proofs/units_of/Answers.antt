@@ -1,7 +1,5 @@
-use Prim.Native.Nat.{◌-◌, ◌*◌, ◌≤◌}
 use mathlib.Core.Path.{◌≡◌, sym, ap}
 use native.Mathlib.Omega.{arith}
-use borrow.Author.Rules.{rules}
 use Rattle.rules.specs.Ranges.{sum}
 use Rattle.rules.specs.Index.{lens_of}
 use Rattle.rules.proofs.Ranges.{sum_none, sum-next}

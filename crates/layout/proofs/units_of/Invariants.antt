@@ -1,11 +1,8 @@
 -- `layout::units_of`: after q turns the units of the first q tracks are summed. Assumes nothing.
 use Prim.Native.Nat.{◌-◌, ◌*◌, ◌≤◌}
-use mathlib.Core.Path.{◌≡◌, sym, ap}
-use native.Mathlib.Omega.{arith}
-use borrow.Author.Rules.{rules}
+use mathlib.Core.Path.{◌≡◌}
 use Rattle.rules.specs.Ranges.{sum}
 use Rattle.rules.specs.Index.{lens_of}
-use Rattle.rules.proofs.Ranges.{sum_none, sum-next}
 use Rattle.layout.proofs.units_of.Given as goal
 
 abbrev pub invariant-loop-q : goal.invariant-loop-q

@@ -1,15 +1,11 @@
 -- `layout::vector_ones`: the table has the units before track p, each of which has a 1 in k - 1 vectors. Assumes nothing.
-use Prim.Native.Nat.{ℕ, ◌+◌, ◌-◌, ◌*◌}
+use Prim.Native.Nat.{◌+◌, ◌-◌, ◌*◌}
 use mathlib.Core.Path.{◌≡◌, ap, ◌∙◌}
-use mathlib.Core.List.{List}
 use native.Mathlib.Omega.{arith}
 use lib.ListN.{get_or}
-use lib.Dec.{ltb}
-use borrow.Author.Rules.{rules}
 use borrow.Author.Tests.{lt-ltb, le-ltb}
-use Rattle.rules.specs.Ranges.{sum, bit1}
+use Rattle.rules.specs.Ranges.{sum}
 use Rattle.rules.specs.Index.{lens_of}
-use Rattle.layout.specs.Starts.{row_starts}
 use Rattle.layout.proofs.Rows.{units_at}
 use Rattle.layout.proofs.vector_ones.Goals as goal
 use Rattle.layout.proofs.vector_ones.Goals.{After-times, After-times-else-p-q}

@@ -2,7 +2,6 @@
 use native.Mathlib.Omega.{arith}
 use borrow.Author.Tests.{eq-eqb, ne_eqb}
 use Rattle.rules.specs.Layout.{vector_bits, vector_room}
-use borrow.Author.Rules.{rules}
 use Rattle.layout.proofs.vector_room.Goals as goal
 
 pub returns-then-p-q : goal.returns-then-p-q

@@ -1,10 +1,9 @@
 -- `layout::vector_start`: the row starts where the table says, and the vectors p,q' before p,q stand between: each has the units of p, and
 -- together those of the tracks before q. Assumes nothing.
-use Prim.Native.Nat.{ℕ, ◌+◌, ◌-◌, ◌*◌}
+use Prim.Native.Nat.{◌+◌, ◌*◌}
 use mathlib.Core.Path.{◌≡◌, ap, ◌∙◌}
 use native.Mathlib.Omega.{arith}
 use lib.ListN.{get_or}
-use borrow.Author.Rules.{rules}
 use Rattle.rules.specs.Ranges.{sum}
 use Rattle.rules.specs.Layout.{offset}
 use Rattle.rules.specs.Index.{lens_of}

@@ -1,13 +1,9 @@
 -- `pairs::bad_pair` meets its contract. The invariant: no pair before i is bad. Assumes nothing.
 use Prim.Native.Nat.{ℕ, ◌-◌, ◌/◌, ◌≤◌, ◌<◌}
-use mathlib.Core.Path.{◌≡◌, sym, ◌∙◌}
+use mathlib.Core.Path.{◌≡◌}
 use mathlib.Core.Bool.{false}
-use native.Mathlib.Omega.{arith}
 use lib.ListN.{length}
-use borrow.Author.Count.{below_more}
-use borrow.Author.Rules.{rules}
 use Rattle.rules.specs.Listing.{bad_pair}
-use Rattle.rules.proofs.Ranges.{first_is, first_none}
 use Rattle.pairs.proofs.bad_pair.Given as goal
 
 abbrev pub invariant-loop-i : goal.invariant-loop-i

@@ -8,7 +8,6 @@ use native.Mathlib.Decide.{dec_le}
 use lib.Dec.{leb, ltb}
 use borrow.Author.Tests.{lt-ltb, lt-leb, le-leb, ltb-true, eq-eqb, not-false}
 use Rattle.rules.specs.Listing.{within, bad_units}
-use Rattle.rules.proofs.Ranges.{not_both}
 use Rattle.rules.proofs.Verdicts.{and_both, within_is, is_within, not_no}
 use Rattle.pairs.proofs.is_bad_pair.Goals as goal
 use Rattle.pairs.proofs.is_bad_pair.Goals.{then-n-u, else-n-u}

@@ -1,7 +1,6 @@
 -- `pairs::pairs_verdict` meets its contract: refusal 4 over all pairs stands before refusal 5 over all pairs, as in the definition.
 -- Assumes nothing.
 use mathlib.Core.Path.{◌≡◌, sym, ◌∙◌}
-use borrow.Author.Rules.{rules}
 use Rattle.rules.specs.declared.Refusal.TheVariants.{BadPair, PairOrder}
 use Rattle.rules.specs.declared.Verdict.TheVariants.{Fine}
 use Rattle.rules.specs.Listing.{pairs, refuse_first, bad_pair, out_of_order, pairs_verdict}

@@ -2,7 +2,6 @@ use Prim.Native.Nat.{◌+◌, ◌-◌, ◌*◌, ◌≤◌, ◌<◌}
 use mathlib.Core.Path.{◌≡◌, ap, ◌∙◌}
 use native.Mathlib.Omega.{arith}
 use lib.ListN.{length, get_or}
-use borrow.Author.Rules.{rules}
 use Rattle.rules.specs.Listing.{pairs, upper, lower}
 use Rattle.rules.proofs.Ranges.{length-table}
 use Rattle.rules.proofs.Needs.{Pairs, pairs_fine}

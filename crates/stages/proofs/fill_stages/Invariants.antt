@@ -1,13 +1,8 @@
 -- `stages::fill_stages`: after j pairs each entry is its unit's stage by these pairs. Assumes nothing.
-use Prim.Native.Nat.{◌+◌, ◌-◌, ◌*◌, ◌≤◌, ◌<◌}
-use mathlib.Core.Path.{◌≡◌, ap, ◌∙◌}
-use native.Mathlib.Omega.{arith}
-use lib.ListN.{length, get_or}
-use borrow.Author.Rules.{rules}
-use Rattle.rules.specs.Listing.{pairs, upper, lower}
-use Rattle.rules.proofs.Ranges.{length-table}
-use Rattle.rules.proofs.Needs.{Pairs, pairs_fine}
-use Rattle.stages.proofs.Lasts.{stages_by, stages_none, stages_few, stages_next, stages_all}
+use Prim.Native.Nat.{◌-◌, ◌≤◌}
+use mathlib.Core.Path.{◌≡◌}
+use lib.ListN.{length}
+use Rattle.stages.proofs.Lasts.{stages_by}
 use Rattle.stages.proofs.fill_stages.Given as goal
 
 abbrev pub invariant-loop-j : goal.invariant-loop-j

@@ -1,7 +1,5 @@
-use Prim.Native.Nat.{ℕ, ◌-◌, ◌≤◌, ◌<◌}
-use mathlib.Core.Path.{◌≡◌}
 use native.Mathlib.Omega.{arith}
-use lib.ListN.{length, get_or, length-set}
+use lib.ListN.{length-set}
 use Rattle.rules.proofs.Ranges.{table_is}
 use Rattle.stages.proofs.Lasts.{ones-next}
 use Rattle.stages.proofs.start_stages.Goals as goal

@@ -1,10 +1,7 @@
 -- `stages::start_stages`: after i turns the first i entries are 1. Assumes nothing.
 use Prim.Native.Nat.{ℕ, ◌-◌, ◌≤◌, ◌<◌}
 use mathlib.Core.Path.{◌≡◌}
-use native.Mathlib.Omega.{arith}
-use lib.ListN.{length, get_or, length-set}
-use Rattle.rules.proofs.Ranges.{table_is}
-use Rattle.stages.proofs.Lasts.{ones-next}
+use lib.ListN.{length, get_or}
 use Rattle.stages.proofs.start_stages.Given as goal
 
 abbrev pub invariant-loop-i : goal.invariant-loop-i

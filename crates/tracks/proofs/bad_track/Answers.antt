@@ -1,12 +1,10 @@
 -- `tracks::bad_track`: where the greatest entry is below k, there is no first of k or more. Assumes nothing.
-use Prim.Native.Nat.{ℕ, ◌≤◌}
-use mathlib.Core.Path.{◌≡◌, sym}
+use Prim.Native.Nat.{ℕ}
+use mathlib.Core.Path.{sym}
 use native.Mathlib.Omega.{arith}
 use lib.ListN.{length, get_or}
 use lib.Dec.{leb}
-use borrow.Author.Rules.{rules}
 use borrow.Author.Tests.{lt-leb}
-use Rattle.rules.specs.Ranges.{first, greatest}
 use Rattle.rules.proofs.Ranges.{first_none, greatest_bound}
 use Rattle.tracks.proofs.bad_track.Goals as goal
 

@@ -1,14 +1,9 @@
 -- `tracks::empty_track` meets its contract. The invariant: no length before q is 0. Assumes nothing.
 use Prim.Native.Nat.{ℕ, ◌-◌, ◌≤◌, ◌<◌}
-use mathlib.Core.Path.{◌≡◌, sym}
+use mathlib.Core.Path.{◌≡◌}
 use mathlib.Core.Bool.{false}
-use native.Mathlib.Omega.{arith}
 use lib.ListN.{get_or}
 use lib.Dec.{eqb}
-use borrow.Author.Count.{below_more}
-use borrow.Author.Rules.{rules}
-use borrow.Author.Tests.{eq-eqb, ne_eqb}
-use Rattle.rules.proofs.Ranges.{first_is, first_none}
 use Rattle.tracks.proofs.empty_track.Given as goal
 
 abbrev pub invariant-loop-q : goal.invariant-loop-q

@@ -1,15 +1,10 @@
 -- `tracks::first_from_track` meets its contract. The invariant: no entry before i is k or more. So the entry at which the loop returns is the
 -- first, and where it runs to the end there is none. Assumes nothing.
 use Prim.Native.Nat.{ℕ, ◌-◌, ◌≤◌, ◌<◌}
-use mathlib.Core.Path.{◌≡◌, sym}
+use mathlib.Core.Path.{◌≡◌}
 use mathlib.Core.Bool.{false}
-use native.Mathlib.Omega.{arith}
 use lib.ListN.{length, get_or}
 use lib.Dec.{leb}
-use borrow.Author.Count.{below_more}
-use borrow.Author.Rules.{rules}
-use borrow.Author.Tests.{le-leb, lt-leb}
-use Rattle.rules.proofs.Ranges.{first_is, first_none}
 use Rattle.tracks.proofs.first_from_track.Given as goal
 
 abbrev pub invariant-loop-i : goal.invariant-loop-i

@@ -1,8 +1,6 @@
-use Prim.Native.Nat.{◌-◌, ◌≤◌}
 use mathlib.Core.Path.{◌≡◌, sym, ap, ◌∙◌}
 use native.Mathlib.Omega.{arith}
 use lib.ListN.{length, get_or}
-use borrow.Author.Rules.{rules}
 use Rattle.rules.specs.Ranges.{greatest}
 use Rattle.rules.proofs.Ranges.{greatest_none, greatest-next}
 use Rattle.tracks.proofs.greatest_track.Goals as goal

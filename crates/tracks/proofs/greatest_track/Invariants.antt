@@ -1,11 +1,8 @@
 -- `tracks::greatest_track`: after i turns the greatest of the first i entries is known. Assumes nothing.
 use Prim.Native.Nat.{◌-◌, ◌≤◌}
-use mathlib.Core.Path.{◌≡◌, sym, ap, ◌∙◌}
-use native.Mathlib.Omega.{arith}
+use mathlib.Core.Path.{◌≡◌}
 use lib.ListN.{length, get_or}
-use borrow.Author.Rules.{rules}
 use Rattle.rules.specs.Ranges.{greatest}
-use Rattle.rules.proofs.Ranges.{greatest_none, greatest-next}
 use Rattle.tracks.proofs.greatest_track.Given as goal
 
 abbrev pub invariant-loop-i : goal.invariant-loop-i

@@ -1,16 +1,8 @@
 -- `tracks::track_lengths` meets its contract. The invariant: entry q is the count of the units so far in track q. Assumes nothing.
-use Prim.Native.Nat.{ℕ, ◌+◌, ◌-◌, ◌≤◌, ◌<◌}
-use mathlib.Core.Path.{◌≡◌, refl, sym, ap, ◌∙◌}
-use mathlib.Core.List.{List}
-use native.Mathlib.Decide.{ℕ_discrete}
-use native.Mathlib.Omega.{arith}
-use lib.ListN.{length, get_or, set, length-set, get_or-replicate}
-use lib.Seq.{get_or-set_same, get_or-set_other}
-use lib.Dec.{eqb}
-use borrow.Author.Rules.{rules}
-use borrow.Author.Tests.{eq-eqb, ne_eqb}
-use Rattle.rules.specs.Listing.{in_track, size}
-use Rattle.rules.proofs.Ranges.{count_none, count_yes, count_no, count_le, table_is}
+use Prim.Native.Nat.{ℕ, ◌-◌, ◌≤◌, ◌<◌}
+use mathlib.Core.Path.{◌≡◌}
+use lib.ListN.{length, get_or}
+use Rattle.rules.specs.Listing.{in_track}
 use Rattle.tracks.proofs.track_lengths.Given as goal
 
 abbrev pub invariant-loop-i : goal.invariant-loop-i

@@ -1,5 +1,4 @@
 -- `words::clear_bit`: the machine's word is the word with one digit changed, by `clear_there`. Assumes nothing.
-use borrow.Author.Rules.{rules}
 use Rattle.words.proofs.WithBit.{clear_there}
 use Rattle.words.proofs.clear_bit.Goals as goal
 

@@ -1,8 +1,8 @@
-use Prim.Native.Nat.{◌+◌, ◌-◌, ◌≤◌}
+use Prim.Native.Nat.{◌+◌}
 use mathlib.Core.Path.{◌≡◌, sym, ap, ◌∙◌}
 use native.Mathlib.Omega.{arith}
 use lib.ListN.{length}
-use Rattle.rules.specs.Ranges.{table, over}
+use Rattle.rules.specs.Ranges.{table}
 use Rattle.rules.specs.Bits.{ones_before}
 use Rattle.rules.proofs.Ranges.{length-table}
 use Rattle.rules.proofs.Overs.{length_over, over-table_none, over-table-next}

@@ -1,14 +1,9 @@
 -- `words::fill_directory`: after j turns the first j entries are written, and `before` is the next of them.
 -- No entry is above the last, so each fits. Assumes nothing.
-use Prim.Native.Nat.{◌+◌, ◌-◌, ◌≤◌}
-use mathlib.Core.Path.{◌≡◌, sym, ap, ◌∙◌}
-use native.Mathlib.Omega.{arith}
-use lib.ListN.{length}
+use Prim.Native.Nat.{◌-◌, ◌≤◌}
+use mathlib.Core.Path.{◌≡◌}
 use Rattle.rules.specs.Ranges.{table, over}
 use Rattle.rules.specs.Bits.{ones_before}
-use Rattle.rules.proofs.Ranges.{length-table}
-use Rattle.rules.proofs.Overs.{length_over, over-table_none, over-table-next}
-use Rattle.rules.proofs.Bits.{ones_before_none, ones_before-next, ones_before_up}
 use Rattle.words.proofs.fill_directory.Given as goal
 
 abbrev pub invariant-loop-j : goal.invariant-loop-j

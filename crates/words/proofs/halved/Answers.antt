@@ -3,7 +3,6 @@ use mathlib.Core.Path.{ap}
 use native.Mathlib.Omega.{arith}
 use lib.Count.{ones}
 use lib.Pow.{pow_pos}
-use borrow.Author.Rules.{rules}
 use Rattle.words.proofs.Operators.{one_shl, mask_low}
 use Rattle.words.proofs.Halves.{seeks_low, seeks_high}
 use Rattle.words.proofs.halved.Goals as goal

@@ -1,6 +1,5 @@
 use mathlib.Core.Path.{refl}
-use native.Mathlib.Omega.{arith}
-use Rattle.words.proofs.Halves.{Halving, seeks_all, halving_next, halving_last}
+use Rattle.words.proofs.Halves.{seeks_all, halving_next, halving_last}
 use Rattle.words.proofs.one_in_word.Goals as goal
 
 pub loop-width-init : goal.loop-width-init

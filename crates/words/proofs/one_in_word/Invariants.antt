@@ -1,7 +1,5 @@
 -- `words::one_in_word`: the bits that are left are halved until one is left. Assumes nothing.
-use mathlib.Core.Path.{refl}
-use native.Mathlib.Omega.{arith}
-use Rattle.words.proofs.Halves.{Halving, seeks_all, halving_next, halving_last}
+use Rattle.words.proofs.Halves.{Halving}
 use Rattle.words.proofs.one_in_word.Given as goal
 
 abbrev pub invariant-loop-width : goal.invariant-loop-width

@@ -6,7 +6,6 @@ use lib.ListN.{get_or}
 use lib.Bits.{bit_and}
 use lib.Count.{ones}
 use lib.Pow.{pow_pos}
-use borrow.Author.Rules.{rules}
 use Rattle.rules.specs.Bits.{rank}
 use Rattle.rules.proofs.Bits.{rank_le}
 use Rattle.words.proofs.Operators.{one_shl}

@@ -6,7 +6,6 @@ use native.Mathlib.Nat.{mod-lt}
 use lib.ListN.{get_or}
 use lib.Count.{ones, ones-le}
 use lib.Pow.{pow_pos}
-use borrow.Author.Rules.{rules}
 use Rattle.rules.specs.Bits.{rank}
 use Rattle.words.proofs.Ranks.{rank_shifted}
 use Rattle.words.proofs.ones_through.Goals as goal

@@ -3,7 +3,6 @@ use Prim.Native.Nat.{◌+◌, ◌-◌, ◌*◌, ◌/◌, ◌≤◌}
 use mathlib.Core.Path.{sym}
 use native.Mathlib.Omega.{arith}
 use lib.ListN.{get_or}
-use borrow.Author.Rules.{rules}
 use Rattle.rules.specs.Bits.{bit}
 use Rattle.rules.proofs.Bits.{rank_add, rank_le}
 use Rattle.words.specs.Words.{TrueAt}

@@ -3,7 +3,6 @@ use Prim.Native.Nat.{ℕ, ◌+◌, ◌-◌, ◌*◌, ◌/◌, ◌^◌, ◌≤◌
 use mathlib.Core.Path.{sym, ◌∙◌}
 use native.Mathlib.Omega.{arith}
 use lib.ListN.{get_or}
-use borrow.Author.Rules.{rules}
 use Rattle.rules.specs.Bits.{bit}
 use Rattle.rules.proofs.Bits.{bit_le, rank_le, place_of_zero_lem}
 use Rattle.words.specs.Words.{TrueAt}
@@ -45,7 +44,7 @@ word_of_zero-j-requires c =
     record {
       lo_le_hi = (omega arith, last, omega arith);
       by_index = entry_low c;
-      lo_bound = first_word (sought c)
+      lo_bound = first_word (sought c);
     }
 
 pub bounds-words-j : goal.bounds-words-j

@@ -1,5 +1,4 @@
 -- `words::read_bit`: a shift and a mask are what `bit` says. Assumes nothing.
-use borrow.Author.Rules.{rules}
 use Rattle.rules.specs.Bits.{digit, bit}
 use Rattle.words.proofs.Operators.{mask_one}
 use Rattle.words.proofs.read_bit.Goals as goal

@@ -1,5 +1,4 @@
 -- `words::set_bit`: the machine's word is the word with one digit changed, by `set_there`. Assumes nothing.
-use borrow.Author.Rules.{rules}
 use Rattle.words.proofs.WithBit.{set_there}
 use Rattle.words.proofs.set_bit.Goals as goal
 

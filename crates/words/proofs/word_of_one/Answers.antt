@@ -1,7 +1,6 @@
 use Prim.Native.Nat.{◌-◌, ◌/◌}
 use native.Mathlib.Omega.{arith}
-use lib.ListN.{get_or}
-use Rattle.words.proofs.Searches.{Narrowed, narrowed_all, narrowed_left, narrowed_right, narrowed_one, less_left, less_right}
+use Rattle.words.proofs.Searches.{narrowed_all, narrowed_left, narrowed_right, narrowed_one, less_left, less_right}
 use Rattle.words.proofs.word_of_one.Goals as goal
 
 pub loop-a-init : goal.loop-a-init

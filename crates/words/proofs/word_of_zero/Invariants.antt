@@ -1,8 +1,7 @@
 -- `words::word_of_zero`: the words that are left are halved; what halving keeps is `Narrowed`. Assumes nothing.
-use Prim.Native.Nat.{◌-◌, ◌*◌, ◌/◌}
-use native.Mathlib.Omega.{arith}
+use Prim.Native.Nat.{◌-◌, ◌*◌}
 use lib.ListN.{get_or}
-use Rattle.words.proofs.Searches.{Narrowed, narrowed_all, narrowed_left, narrowed_right, narrowed_one, less_left, less_right}
+use Rattle.words.proofs.Searches.{Narrowed}
 use Rattle.words.proofs.word_of_zero.Given as goal
 
 abbrev pub invariant-loop-a : goal.invariant-loop-a
