@@ -1,10 +1,7 @@
 -- `rows::join_pairs` meets its contract. The loop's invariant: j is among the unit's own pairs or right past them, and the row is the
 -- greatest of what the pairs before j bring. A pair goes down, so what it brings stands in an earlier row. Assumes nothing.
-use Prim.Native.Nat.{◌+◌, ◌-◌, ◌*◌, ◌≤◌}
-use native.Mathlib.Omega.{arith}
-use borrow.Author.Tests.{eqb-true, eqb-false}
-use Rattle.rules.specs.Listing.{lower}
-use Rattle.rows.proofs.UnitPairs.{pair_row, RowTo, row_to_start, row_to_more, row_to_end}
+use Prim.Native.Nat.{◌-◌}
+use Rattle.rows.proofs.UnitPairs.{RowTo}
 use Rattle.rows.proofs.join_pairs.Given as goal
 
 abbrev pub invariant-loop-j : goal.invariant-loop-j

@@ -1,13 +1,8 @@
-use Prim.Native.Nat.{◌+◌, ◌-◌, ◌≤◌, ◌<◌}
+use Prim.Native.Nat.{◌+◌, ◌<◌}
 use mathlib.Core.Path.{◌≡◌}
 use native.Mathlib.Omega.{arith}
-use borrow.Author.Rules.{rules}
-use Rattle.rows.specs.Rows.{RowIs}
-use Rattle.rows.proofs.RowsWritten.{row_start, joined, join_write}
+use Rattle.rows.proofs.RowsWritten.{join_write}
 use Rattle.rows.proofs.join_row.Goals as goal
-
-pub loop-q-init : goal.loop-q-init
-loop-q-init c = (omega arith, row_start _ _ _)
 
 pub loop-q-preserved : goal.loop-q-preserved
 loop-q-preserved c =

@@ -1,11 +1,8 @@
 -- `rows::join_row` meets its contract. The loop's invariant: the first q entries of the row are joined. Row `from` stands before it, and
 -- is as it was. Assumes nothing.
-use Prim.Native.Nat.{◌+◌, ◌-◌, ◌≤◌, ◌<◌}
-use mathlib.Core.Path.{◌≡◌}
-use native.Mathlib.Omega.{arith}
-use borrow.Author.Rules.{rules}
+use Prim.Native.Nat.{◌-◌, ◌≤◌}
 use Rattle.rows.specs.Rows.{RowIs}
-use Rattle.rows.proofs.RowsWritten.{row_start, joined, join_write}
+use Rattle.rows.proofs.RowsWritten.{joined}
 use Rattle.rows.proofs.join_row.Given as goal
 
 abbrev pub invariant-loop-q : goal.invariant-loop-q

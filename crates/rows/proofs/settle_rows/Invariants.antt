@@ -1,14 +1,9 @@
 -- `rows::settle_rows` meets its contract. The loop's invariant: the rows of the first i units are as they were filled, those past them are
 -- settled, j is the first pair past the first i units, and bad is the first unsound unit from the i-th on. Assumes nothing.
-use Prim.Native.Nat.{◌+◌, ◌-◌, ◌*◌, ◌≤◌, ◌<◌}
-use mathlib.Core.Path.{◌≡◌, refl}
-use mathlib.Core.Logic.{⊎_elim}
-use native.Mathlib.Omega.{arith}
-use lib.ListN.{length, get_or, length-set}
+use mathlib.Core.Path.{◌≡◌}
+use lib.ListN.{length}
 use Rattle.rules.specs.Listing.{listing}
-use Rattle.rules.proofs.Needs.{pairs_wider}
-use Rattle.rows.proofs.RowsWritten.{row_end}
-use Rattle.rows.proofs.Lows.{RowsSettled, settled_start, own_under, refused_here, refused_past, settled_next, settled_all}
+use Rattle.rows.proofs.Lows.{RowsSettled}
 use Rattle.rows.proofs.settle_rows.Given as goal
 
 abbrev pub invariant-loop-i : goal.invariant-loop-i
