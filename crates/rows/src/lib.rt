@@ -1,4 +1,6 @@
 // The rows of the work area: what each unit needs in each track, from the listed pairs; and the first unit of an unsound track.
+#![tactic(auto)]
+
 ghost use Rattle.std.specs.Prelude.{ℕ, ◌+◌, ◌*◌, ◌≤◌, ◌<◌, max, ◌≡◌, length, get_or};
 ghost use Rattle.rules.specs.Ranges.{first, greatest, rows};
 ghost use Rattle.rules.specs.Listing.{listing, pairs};
