@@ -16,7 +16,7 @@ import time
 import walk
 
 root = pathlib.Path(__file__).resolve().parent.parent
-program = [str(root / "target/bin/course")]
+program = [str(root / "crates/course/out/course")]
 if platform.machine() not in ("x86_64", "AMD64"):
     program = [os.environ.get("EMULATOR", "qemu-x86_64")] + program
 ROUNDS = 150
