@@ -1,4 +1,6 @@
 // Any index judged: whole, or which of the seven conditions fails first.
+#![tactic(auto)]
+
 ghost use Rattle.std.specs.Prelude.{ℕ, ◌+◌, ◌-◌, ◌*◌, ◌/◌, ◌≤◌, ◌<◌, ◌≡◌, cond, length, get_or, replicate, eqb};
 ghost use Rattle.rules.specs.Ranges.{sum, every};
 ghost use Rattle.rules.specs.Layout.{offset, vector_bits, word_count};
