@@ -24,7 +24,6 @@ use Rattle.rules.specs.Outcomes.{part_verdict, pairs_from, part_outcome}
 use Rattle.rules.proofs.Ranges.{first_le, first_before, first_met}
 use Rattle.rules.proofs.Verdicts.{within_is, then_fine, unless_fine}
 use Rattle.rules.proofs.Needs.{Below, Pairs, ascends_far, pairs_fine}
-use Rattle.listing.specs.declared.Span.{Span}
 use Rattle.listing.specs.Spans.{pair_from, part_span}
 
 -- ---- the first units ascend

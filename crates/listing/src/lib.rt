@@ -1,4 +1,6 @@
 // A listing checked: refusals 1 to 5 in the order of their numbers; and the part of a need list that begins with a unit.
+#![tactic(auto)]
+
 ghost use Rattle.std.specs.Prelude.{ℕ, ◌+◌, ◌≤◌, ◌<◌, ◌≡◌, length, leb};
 ghost use Rattle.rules.specs.Ranges.{first};
 ghost use Rattle.rules.specs.Listing.{listing, pairs, upper, listing_verdict};

@@ -1,2 +1,2 @@
--- What the proofs of the functions share.
+-- What the crates above share.
 pub mod Telling

@@ -1,4 +1,6 @@
 // Answers told in document 01's numbers: a refusal by its number and place, and the value answered beside it.
+#![tactic(auto)]
+
 ghost use Rattle.std.specs.Prelude.{◌≡◌};
 ghost use Rattle.rules.specs.Told.{told_refusal, told_verdict, told_pair, told_number};
 
