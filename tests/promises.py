@@ -15,7 +15,7 @@ def declared(name, source):
     forms = (
         rf"^\s*(?:(?:unfoldable|abbrev|pub) )*{n}(?: \{{[^}}]*\}})? :",
         rf"^\s*(?:pub )?(?:data|record) {n}(?=\s|$)",
-        rf"^\s*(?:pub )?(?:extern \"C\" )?fn {n}\(",
+        rf"^\s*(?:pub )?(?:extern \"C\" )?fn {n}(?:<[^>]*>)?\(",
         rf"^\s*(?:pub )?(?:struct|enum|const) {n}(?=\W|$)",
         rf"^def {n}\(",
     )

@@ -1,6 +1,6 @@
 -- The bytes of a block: some of them moved to the front, and others come behind them.
 -- Assumes nothing.
-use Prim.Native.Nat.{ℕ, zero, suc, ◌+◌, ◌-◌, ◌≤◌, ◌<◌, zero-le}
+use Prim.Native.Nat.{ℕ, zero, suc, ◌+◌, ◌-◌, ◌≤◌, ◌<◌}
 use mathlib.Core.Path.{◌≡◌, refl, sym, ap, ◌∙◌}
 use mathlib.Core.Bool.{Bool, true, false}
 use mathlib.Core.List.{List, [], ◌∷◌, ◌++◌, append-nil}
@@ -8,12 +8,11 @@ use mathlib.Core.Logic.{inl, inr}
 use native.Mathlib.Numerals.{add-one}
 use native.Mathlib.Omega.{arith}
 use lib.Dec.{eqb}
-use lib.Signed.{le_z}
-use lib.IntN.{ℤ, pos, negsuc}
 use lib.ListN.{length, get_or, take, drop, set, length-drop}
 use lib.Seq.{length-take-le, take-suc, get_or-drop, take-nil, take_at, take-add, drop-drop}
-use borrow.Author.Tests.{eqb-true, eqb-false, le-leb}
-use Rattle.io.specs.Counts.{clamp_len}
+use borrow.Author.Tests.{eqb-true, eqb-false}
+use Rattle.std.specs.Prelude.{min, Result, Ok, Err}
+use Rattle.std.specs.Result.{is_ok, result_unwrap_or}
 use Rattle.rules.specs.Ranges.{over}
 use Rattle.rules.proofs.Overs.{over-next, over_rest}
 use Rattle.blocks.specs.Blocks.{part, filled_by, Refilled}
@@ -45,21 +44,23 @@ module _ (bytes : List ℕ) (from i : ℕ) (h : from + i < length bytes) where
 
 -- ---- a read
 
-pub read_by : (got : ℤ) (have size : ℕ) → record { well = le_z (pos 0) got; end = have + clamp_len got (size - have) } ≡ filled_by got have size
-unfolding filled_by
-read_by (pos got) have size = rw (le-leb 0 got zero-le)
-read_by (negsuc got) have size = let e : have + 0 ≡ have = omega arith in rw e
+module _ {E : Type 0} where
+  pub read_by : (got : Result ℕ E) (have size : ℕ)
+      → record { well = is_ok got; end = have + min (result_unwrap_or got 0) (size - have) } ≡ filled_by got have size
+  unfolding filled_by
+  read_by (Ok got) have size = refl
+  read_by (Err e) have size = let none : have + min 0 (size - have) ≡ have = omega arith in ap (λ (n : ℕ). record { well = false; end = n }) none
 
--- what came lies in the block
-pub filled_past : (got : ℤ) (have size : ℕ) → have ≤ (filled_by got have size).end
-unfolding filled_by
-filled_past (pos got) have size = omega arith
-filled_past (negsuc got) have size = omega arith
+  -- what came lies in the block
+  pub filled_past : (got : Result ℕ E) (have size : ℕ) → have ≤ (filled_by got have size).end
+  unfolding filled_by
+  filled_past (Ok got) have size = omega arith
+  filled_past (Err e) have size = omega arith
 
-pub filled_in : (got : ℤ) (have size : ℕ) → have ≤ size → (filled_by got have size).end ≤ size
-unfolding filled_by
-filled_in (pos got) have size h = omega arith
-filled_in (negsuc got) have size h = h
+  pub filled_in : (got : Result ℕ E) (have size : ℕ) → have ≤ size → (filled_by got have size).end ≤ size
+  unfolding filled_by
+  filled_in (Ok got) have size h = omega arith
+  filled_in (Err e) have size h = h
 
 pub part_long : (bytes : List ℕ) (from end : ℕ) → end ≤ length bytes → length (part bytes from end) ≡ end - from
 part_long bytes from end h = length-take-le (end - from) (drop from bytes) (simp length-drop (omega arith))

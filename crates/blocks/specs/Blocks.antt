@@ -1,5 +1,5 @@
 -- The bytes that wait in a block: which they are before a read, and after it.
-use Rattle.std.specs.Prelude.{ℕ, ◌+◌, ◌-◌, ◌≤◌, ◌<◌, min, ◌≡◌, Bool, true, false, List, [], ◌++◌, ◌⊎◌, ℤ, pos, negsuc, length, take, drop}
+use Rattle.std.specs.Prelude.{ℕ, ◌+◌, ◌-◌, ◌≤◌, ◌<◌, min, ◌≡◌, Bool, true, false, List, [], ◌++◌, ◌⊎◌, Result, Ok, Err, length, take, drop}
 use Rattle.blocks.specs.declared.Filled.{Filled}
 use Rattle.blocks.specs.declared.Waiting.{Waiting}
 
@@ -9,10 +9,10 @@ part bytes from end = take (end - from) (drop from bytes)
 
 -- ---- a read
 
--- what a read's answer says of a block of so many bytes, of which the first are there: below 0 it failed, else so many came behind them
-unfoldable pub filled_by : ℤ → ℕ → ℕ → Filled
-filled_by (pos got) have size = record { well = true; end = have + min got (size - have) }
-filled_by (negsuc got) have size = record { well = false; end = have }
+-- what a read's answer says of a block of so many bytes, of which the first are there: an error that it failed, else so many came behind them
+unfoldable pub filled_by : {E : Type 0} → Result ℕ E → ℕ → ℕ → Filled
+filled_by (Ok got) have size = record { well = true; end = have + min got (size - have) }
+filled_by (Err e) have size = record { well = false; end = have }
 
 -- what comes behind the bytes that wait: nothing where a whole line waits or the file has ended, else one byte at least
 pub record Came (waiting : ℕ) (came : List ℕ) (ended : Bool) : Type 0 where

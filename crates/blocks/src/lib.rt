@@ -1,9 +1,12 @@
-// The block into which standard input is read: the bytes that wait in it, and those that a read brings behind them.
+// The block into which the input is read: the bytes that wait in it, and those that a read brings behind them.
+#![tactic(auto)]
+
 ghost use Rattle.std.specs.Prelude.{◌≤◌, ◌≡◌, length, take};
 ghost use Rattle.rules.specs.Ranges.{over};
 ghost use Rattle.blocks.specs.Blocks.{part, filled_by, Refilled};
 
-use libc::STDIN_FILENO;
+use std::io;
+use std::io::Read;
 
 // Moves the bytes from one place up to another to the front.
 fn keep(bytes: &mut [u8], from: usize, end: usize)
@@ -24,23 +27,24 @@ struct Filled {
     end: usize,
 }
 
-// What a read's answer says of the bytes: below 0 it failed, else so many came behind those that are there.
-fn after_read(got: isize, bytes: &[u8], have: usize) -> Filled
+// What a read's answer says of the bytes: an error that it failed, else so many came behind those that are there.
+#[tactic(auto, using(crate::proofs::Refills::read_by))]
+fn after_read(got: io::Result<usize>, bytes: &[u8], have: usize) -> Filled
     requires { have ≤ length bytes.now }
     ensures { result ≡ filled_by got have (length bytes.now) }
 {
     Filled {
-        well: 0 <= got,
-        end: have + io::count(got, &bytes[have..]),
+        well: got.is_ok(),
+        end: have + got.unwrap_or(0).min(bytes.len() - have),
     }
 }
 
 // One read, behind the bytes that are there.
-fn fill(bytes: &mut [u8], have: usize) -> Filled
+fn fill<R: Read>(input: &mut R, bytes: &mut [u8], have: usize) -> Filled
     requires { have ≤ length bytes.old }
     ensures { (have ≤ result.end) × (result.end ≤ length bytes.new) × (take have bytes.new ≡ take have bytes.old) }
 {
-    let got = libc::read(STDIN_FILENO, &mut bytes[have..]);
+    let got = input.read(&mut bytes[have..]);
     after_read(got, bytes, have)
 }
 
@@ -54,7 +58,7 @@ pub struct Waiting {
 }
 
 // Reads on where no whole line waits.
-pub fn refill(bytes: &mut [u8], from: usize, end: usize) -> Waiting
+pub fn refill<R: Read>(input: &mut R, bytes: &mut [u8], from: usize, end: usize) -> Waiting
     requires { (from ≤ end) × (end ≤ length bytes.old) × (11 ≤ length bytes.old) }
     ensures { Refilled bytes.old from end result bytes.new }
 {
@@ -68,7 +72,7 @@ pub fn refill(bytes: &mut [u8], from: usize, end: usize) -> Waiting
     }
     keep(bytes, from, end);
     let have = end - from;
-    let filled = fill(bytes, have);
+    let filled = fill(input, bytes, have);
     Waiting {
         from: 0,
         end: filled.end,

@@ -1,11 +1,13 @@
 // The course program: a course file on standard input, its answers on standard output. What is done with the bytes is in `feeding`; here
 // they are read, handed on, and what is printed is written.
+#![tactic(auto)]
+
 ghost use Rattle.std.specs.Prelude.{◌≤◌, ◌≡◌, false, length};
 ghost use Rattle.reading.specs.Held.{Room, lent, entered, left, Fit};
 ghost use Rattle.course.specs.Turns.{between, Turned, fresh, LedTo};
 
-use libc::STDOUT_FILENO;
 use reading::Card;
+use std::io::{Read, Write};
 
 // A card, the bytes that wait in the block, whether more is to be read, and whether a read or a write has failed.
 #[derive(Clone, Copy)]
@@ -17,16 +19,18 @@ struct Feeding {
     failed: bool,
 }
 
-// What is printed is written; whether all of it could be.
-fn print(out: &[u8], wrote: usize) -> bool
+// What is printed is written, and nothing of it is held back; whether all of it could be.
+fn print<W: Write>(output: &mut W, out: &[u8], wrote: usize) -> bool
     requires { wrote ≤ length out.now }
 {
-    io::write_all(STDOUT_FILENO, &out[..wrote])
+    output.write_all(&out[..wrote]).is_ok() && output.flush().is_ok()
 }
 
 // Reads on where no whole line waits, and feeds the card with all that waits. A read or a write that fails ends the program without another
 // word: what follows is not known to be the end of the file.
-fn turn(
+fn turn<R: Read, W: Write>(
+    input: &mut R,
+    output: &mut W,
     feeding: Feeding,
     bytes: &mut [u8],
     tracks: &mut [u16],
@@ -41,7 +45,7 @@ fn turn(
     requires from_le_end { (feeding.from ≤ feeding.end) × (feeding.end ≤ length bytes.old) × (11 ≤ length bytes.old) × (5145 ≤ length out.old) }
     ensures { Turned (between feeding bytes.old (entered tracks needs words directory work list) out.old) (between result bytes.new (left tracks needs words directory work list) out.new) }
 {
-    let waiting = blocks::refill(bytes, feeding.from, feeding.end);
+    let waiting = blocks::refill(input, bytes, feeding.from, feeding.end);
     let from = waiting.from;
     let end = waiting.end;
     let card = feeding.card;
@@ -66,7 +70,7 @@ fn turn(
         list,
         out,
     );
-    let written = print(out, fed.wrote);
+    let written = print(output, out, fed.wrote);
     Feeding {
         card: fed.card,
         from: from + fed.used,
@@ -77,7 +81,9 @@ fn turn(
 }
 
 // Turn after turn, until nothing more is to be read. Every turn but the last reads a byte or takes a line, and a card stops after 65,536 lines.
-fn serve(
+fn serve<R: Read, W: Write>(
+    input: &mut R,
+    output: &mut W,
     bytes: &mut [u8],
     tracks: &mut [u16],
     needs: &mut [u16],
@@ -101,13 +107,13 @@ fn serve(
     };
     while feeding.more {
         feeding = turn(
-            feeding, bytes, tracks, needs, words, directory, work, list, out,
+            input, output, feeding, bytes, tracks, needs, words, directory, work, list, out,
         );
     }
     feeding
 }
 
-fn main() {
+fn main(rt: HostRuntime) {
     let mut bytes = [0u8; 16384];
     let mut tracks = [0u16; 1024];
     let mut needs = [0u16; 16384];
@@ -117,6 +123,8 @@ fn main() {
     let mut list = [0u16; 1024];
     let mut out = [0u8; 32768];
     serve(
+        &mut rt.stdin(),
+        &mut rt.stdout(),
         &mut bytes,
         &mut tracks,
         &mut needs,

@@ -1,6 +1,6 @@
 -- How a card and the lent areas hold a reading, what each phase has settled of them, and what a step leaves.
 use Rattle.std.specs.Prelude.{ℕ, ◌+◌, ◌*◌, ◌/◌, ◌≤◌, ◌<◌, ◌≡◌, true, List, length, get_or, take, replicate}
-use Rattle.std.specs.Borrow.{Bor}
+use Rattle.std.specs.Borrow.{MutBor}
 use denote.Triple.Both.{Both}
 use Rattle.rules.specs.declared.Verdict.TheVariants.{Fine}
 use Rattle.rules.specs.Ranges.{table, over}
@@ -34,7 +34,7 @@ areas tracks needs words directory work list =
 
 -- the areas as they are lent; and by what a call is lent and leaves: as it finds them, and as it leaves them
 abbrev pub Slice : Type 0
-Slice = Bor (List ℕ)
+Slice = MutBor (List ℕ)
 
 abbrev pub lent : Slice → Slice → Slice → Slice → Slice → Slice → Areas
 lent tracks needs words directory work list = areas tracks.now needs.now words.now directory.now work.now list.now

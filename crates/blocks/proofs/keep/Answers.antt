@@ -1,9 +1,6 @@
-use Prim.Native.Nat.{◌+◌, ◌-◌, ◌≤◌, ◌<◌}
-use mathlib.Core.Path.{◌≡◌, refl, sym, ◌∙◌}
-use native.Mathlib.Omega.{arith}
-use borrow.Author.Rules.{rules}
-use lib.ListN.{length, take, drop}
-use Rattle.rules.specs.Ranges.{over}
+-- `blocks::keep`: the next byte to be moved is as it was, and so it is set behind those that were moved.
+-- Assumes nothing.
+use Rattle.std.proofs.Common.{◌+◌, ◌<◌, length, refl, rules, arith}
 use Rattle.rules.proofs.Overs.{over_none}
 use Rattle.blocks.proofs.Refills.{moved_next}
 use Rattle.blocks.proofs.keep.Goals as goal
@@ -15,11 +12,4 @@ pub loop-i-preserved : goal.loop-i-preserved
 loop-i-preserved c =
     let l = c.loop-i in
     let inside : c.args.from + l.i < length c.args.bytes.now = omega arith in
-    let e = l.invariant.0 in
-    (rw e (moved_next c.args.bytes.now c.args.from l.i inside), search rules, search rules, search rules)
-
-pub returns : goal.returns
-returns c =
-    let l = c.loop-i in
-    let all : l.i ≡ c.args.end - c.args.from = omega arith in
-    l.invariant.0 ∙ rw all
+    (rw l.invariant.0 (moved_next c.args.bytes.now c.args.from l.i inside), search rules, search rules, search rules)

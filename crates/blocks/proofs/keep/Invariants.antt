@@ -1,13 +1,9 @@
 -- `blocks::keep`: the bytes moved so far stand at the front, and the others are as they were.
 -- Assumes nothing.
-use Prim.Native.Nat.{◌+◌, ◌-◌, ◌≤◌, ◌<◌}
-use mathlib.Core.Path.{◌≡◌, refl, sym, ◌∙◌}
-use native.Mathlib.Omega.{arith}
-use borrow.Author.Rules.{rules}
+use Prim.Native.Nat.{◌+◌, ◌-◌, ◌≤◌}
+use mathlib.Core.Path.{◌≡◌}
 use lib.ListN.{length, take, drop}
 use Rattle.rules.specs.Ranges.{over}
-use Rattle.rules.proofs.Overs.{over_none}
-use Rattle.blocks.proofs.Refills.{moved_next}
 use Rattle.blocks.proofs.keep.Given as goal
 
 abbrev pub invariant-loop-i : goal.invariant-loop-i
