@@ -1,4 +1,6 @@
 // low and high read off an index that is known to be whole, by track and position; and which of those positions reach which.
+#![tactic(auto)]
+
 ghost use Rattle.std.specs.Prelude.{ℕ, ◌≤◌, ◌<◌, ◌≡◌, cond, not, ◌&&◌, length, get_or, leb, ltb};
 ghost use Rattle.rules.specs.Ranges.{every, table};
 ghost use Rattle.rules.specs.Listing.{track, position};

@@ -1,4 +1,6 @@
 // Kinds 10 to 18, asked of an index that is known to be whole.
+#![tactic(auto)]
+
 ghost use Rattle.std.specs.Prelude.{ℕ, ◌≤◌, ◌<◌, ◌≡◌, length, get_or};
 ghost use Rattle.rules.specs.Index.{lens_of};
 ghost use Rattle.rules.specs.Order.{highest_step};
