@@ -12,7 +12,7 @@ use Rattle.rules.specs.declared.Verdict.{Verdict}
 use Rattle.rules.specs.declared.Verdict.TheVariants.{Fine, Refused}
 use Rattle.rules.specs.Listing.{within}
 use Rattle.rules.specs.Refusals.{unless, ◌then◌}
-use Rattle.rules.specs.Index.{Index, index, fault, whole}
+use Rattle.rules.specs.Index.{Index, index, whole}
 use Rattle.rules.specs.Outcomes.{unit_verdict, track_verdict, whole_verdict}
 use Rattle.rules.proofs.Verdicts.{then_fine, unless_fine, within_is}
 use Rattle.rules.proofs.Wholes.{whole_is}

@@ -1,4 +1,6 @@
 // Refusals 9 and 8: what a question asks of its index and of its arguments before it answers.
+#![tactic(auto)]
+
 ghost use Rattle.std.specs.Prelude.{◌≡◌};
 ghost use Rattle.arguments.specs.Arguments.{one_unit, two_units, unit_and_track};
 
