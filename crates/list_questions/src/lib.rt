@@ -1,4 +1,6 @@
 // Kinds 12 to 15, asked of any index: the index is judged first, then the unit, and only then the list is written.
+#![tactic(auto)]
+
 ghost use Rattle.std.specs.Prelude.{◌≡◌};
 ghost use Rattle.rules.specs.Index.{index};
 ghost use Rattle.rules.specs.Outcomes.{needed_outcome, needing_outcome, steps_outcome, steps_up_outcome};

@@ -1,4 +1,6 @@
 // Kinds 16 to 18, asked of any index: the index is judged first, then the unit and the track, and only then the question is asked.
+#![tactic(auto)]
+
 ghost use Rattle.std.specs.Prelude.{◌≡◌};
 ghost use Rattle.rules.specs.Index.{index};
 ghost use Rattle.rules.specs.Outcomes.{stage_outcome, unit_low_outcome, unit_high_outcome};

@@ -1,4 +1,6 @@
 // Kinds 10 and 11, asked of any index: the index is judged first, then the two units, and only then the question is asked.
+#![tactic(auto)]
+
 ghost use Rattle.std.specs.Prelude.{◌≡◌};
 ghost use Rattle.rules.specs.Index.{index};
 ghost use Rattle.rules.specs.Outcomes.{yes_or_no, needs_outcome, is_step_outcome};
