@@ -1,4 +1,6 @@
 // An index built from a listing: checked, its rows worked out, then its words and directory filled.
+#![tactic(auto)]
+
 ghost use Rattle.std.specs.Prelude.{ℕ, ◌+◌, ◌*◌, ◌≤◌, ◌<◌, ◌≡◌, length, get_or};
 ghost use Rattle.rules.specs.Ranges.{first, table};
 ghost use Rattle.rules.specs.Listing.{listing};
