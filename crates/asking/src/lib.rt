@@ -1,4 +1,6 @@
 // The questions of a course file, kinds 10 to 18: each is answered from the index that lies in the areas, and its answer printed.
+#![tactic(auto)]
+
 ghost use Rattle.std.specs.Prelude.{◌≤◌, ◌≡◌, length};
 ghost use Rattle.rules.specs.Ranges.{over};
 ghost use Rattle.reading.specs.Held.{asked, Ready, stages_of};
