@@ -25,8 +25,8 @@ built_told b refusal words directory work =
       work = work;
     }
 
-pub told_part : {r : Told} {s : Span} (l : List ℕ) (u : ℕ) → r ≡ told_verdict (part_verdict l u) → s ≡ part_span l u → part_told r s ≡ told_part l u
-told_part {r} {s} l u e f = ap (λ x. part_told x s) e ∙ ap (part_told (told_verdict (part_verdict l u))) f
+pub told_part_lem : {r : Told} {s : Span} (l : List ℕ) (u : ℕ) → r ≡ told_verdict (part_verdict l u) → s ≡ part_span l u → part_told r s ≡ told_part l u
+told_part_lem {r} {s} l u e f = ap (λ x. part_told x s) e ∙ ap (part_told (told_verdict (part_verdict l u))) f
 
 pub told_build_lem : {b : Built} {r : Told} {w d k : List ℕ} {o : BuildOutcome} → r ≡ told_verdict b.verdict → outcome b w d k ≡ o → built_told b r w d k ≡ told_build o
 told_build_lem {b} {r} {w} {d} {k} e f = ap (λ x. built_told b x w d k) e ∙ ap told_build f

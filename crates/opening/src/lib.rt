@@ -1,4 +1,6 @@
 // The frames that open a course: 01, the counts of units and tracks, and 02, the track of each unit in turn.
+#![tactic(auto)]
+
 ghost use Rattle.std.specs.Prelude.{◌≤◌, ◌<◌, ◌≡◌, length};
 ghost use Rattle.reading.specs.Card as rule;
 ghost use Rattle.reading.specs.Held.{Areas, reading_of, Fit, Took};
