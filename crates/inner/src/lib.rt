@@ -1,4 +1,6 @@
 // The questions of an index that is known to be whole, exported for the benchmark alone; no header of the library declares them.
+#![tactic(auto)]
+
 ghost use Rattle.std.specs.Prelude.{◌≤◌, ◌≡◌};
 ghost use Rattle.rules.specs.Index.{lens_of};
 ghost use Rattle.rules.specs.Questions.{kind10, kind11, kind12, kind13, kind14, kind15, kind16};

@@ -10,7 +10,6 @@ use Rattle.build.specs.Ones.{outcome}
 use Rattle.listing.specs.declared.Span.{Span}
 use Rattle.listing.specs.Spans.{part_span}
 use Rattle.ngolishepa.specs.declared.PartTold.{PartTold}
-use Rattle.ngolishepa.specs.declared.BuiltTold.{BuiltTold}
 use Rattle.ngolishepa.specs.Told.{BuildTold, told_build, told_part}
 
 abbrev part_told : Told → Span → PartTold

@@ -1,4 +1,6 @@
 // The calls of the box for C: each hands its arguments on and tells the answer as plain numbers. include/ngolishepa.h declares them.
+#![tactic(auto)]
+
 ghost use Rattle.std.specs.Prelude.{◌≡◌};
 ghost use Rattle.rules.specs.Index.{index};
 ghost use Rattle.rules.specs.Listing.{listing, listing_verdict};

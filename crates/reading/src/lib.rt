@@ -1,4 +1,6 @@
 // What has been read of a course file: the card with its areas, the phases of the order of frames, and how a card is refused.
+#![tactic(auto)]
+
 ghost use Rattle.std.specs.Prelude.{◌≤◌, ◌≡◌, length};
 ghost use Rattle.reading.specs.Card as rule;
 ghost use Rattle.reading.specs.Held.{Areas, reading_of, fresh_card, card_in, Roomy, Took};

@@ -1,5 +1,4 @@
 -- `inner::ngolishepa_inner_needed`: the answer and the list, told. Assumes nothing.
-use borrow.Author.Rules.{rules}
 use Rattle.telling.proofs.Telling.{told_list_lem}
 use Rattle.inner.proofs.ngolishepa_inner_needed.Goals as goal
 

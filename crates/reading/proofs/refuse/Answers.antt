@@ -1,7 +1,6 @@
 -- `reading::refuse`: the refusal is printed, and the card stops.
 -- Assumes nothing.
 use Rattle.reading.proofs.Taking.{took_refused}
-use borrow.Author.Rules.{rules}
 use Rattle.reading.proofs.refuse.Goals as goal
 
 pub returns : goal.returns
