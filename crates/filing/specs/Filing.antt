@@ -1,5 +1,6 @@
 -- What a need, 03, and the end of a listing, 04, leave.
 use Rattle.std.specs.Prelude.{ℕ, ◌≡◌, List}
+use Rattle.std.specs.Borrow.{Bor}
 use denote.Triple.Both.{Both}
 use Rattle.reading.specs.declared.Card.{Card}
 use Rattle.reading.specs.declared.Step.{Step}
@@ -15,8 +16,12 @@ NeedTaken card u v needs out step needs' out' =
     Took (need_frame (reading_of card (areas tracks needs words directory work list)) u v) out step
     (areas tracks needs' words directory work list) out'
 
+-- an area that a call only reads
+abbrev pub Read : Type 0
+Read = Both (Bor (List ℕ)) (Bor (List ℕ))
+
 -- whatever the list area holds, 04 is taken; of the areas only words, directory and work area are written
-abbrev pub EndTaken : Card → ℕ → ℕ → Passed → Passed → Passed → Passed → Passed → Passed → Step → Type 0
+abbrev pub EndTaken : Card → ℕ → ℕ → Read → Read → Passed → Passed → Passed → Passed → Step → Type 0
 EndTaken card count filler tracks needs words directory work out step =
     (list : List ℕ) →
     card.phase ≡ Needs →

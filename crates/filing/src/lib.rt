@@ -1,4 +1,6 @@
 // The needs of a course, 03, filed one behind another, and its end, 04, where the index is built.
+#![tactic(auto)]
+
 ghost use Rattle.std.specs.Prelude.{◌*◌, ◌≤◌, ◌<◌, ◌≡◌, length};
 ghost use Rattle.rules.specs.Ranges.{over};
 ghost use Rattle.answers.specs.Printed.{built_line};
