@@ -1,4 +1,6 @@
 // The order of frames: one line of a course file, read as a frame and taken where it may stand, or refused.
+#![tactic(auto)]
+
 ghost use Rattle.std.specs.Prelude.{◌≤◌, length};
 ghost use Rattle.reading.specs.Card as rule;
 ghost use Rattle.reading.specs.Held.{lent, entered, left, reading_of, Fit, Took};
