@@ -22,7 +22,7 @@ use Rattle.answers.specs.Printed.{refused_line}
 use Rattle.frames.proofs.Frames.{line_short, line_long, line_feed_last}
 use Rattle.reading.specs.declared.Phase.{Phase}
 use Rattle.reading.specs.declared.Phase.TheVariants.{Head, Tracks, Needs, Asking, Stopped}
-use Rattle.reading.specs.Card.{Reading, Next, go_on, counted, reads, refuse, read_line, unfinished, at_end, start}
+use Rattle.reading.specs.Card.{Reading, Next, reads, refuse, read_line, unfinished, at_end, start}
 use Rattle.order.proofs.Turns.{stopped_line, no_frame_line}
 use Rattle.card.specs.Files.{first_line, printed_from, course_prints, fed, rest_printed}
 use Rattle.reading.specs.Held.{next}

@@ -22,7 +22,6 @@ use Rattle.rules.proofs.Accepted.{listing_fine}
 use Rattle.rules.proofs.Cases.{Outside, sound_never, sound_at}
 use Rattle.rules.proofs.Refusing.{listing_1, listing_2, listing_3, listing_4, listing_5, listing_others}
 use Rattle.frames.specs.declared.Frame.{Frame}
-use Rattle.frames.specs.declared.Line.TheVariants.{NoFrame}
 use Rattle.reading.specs.declared.Phase.{Phase}
 use Rattle.reading.specs.declared.Phase.TheVariants.{Head, Tracks, Needs, Asking, Stopped}
 use Rattle.reading.specs.Card.{Reading, Next, listing_of, refuse, loaded, counted, reads, read_line, unfinished, start}

@@ -3,22 +3,21 @@
 use Prim.Native.Nat.{ℕ, suc, ◌+◌, ◌-◌, ◌*◌, ◌/◌, ◌≤◌, ◌<◌}
 use mathlib.Core.Path.{◌≡◌, refl, sym, ap, ◌∙◌}
 use mathlib.Core.Bool.{Bool, true, false, not, ◌&&◌}
-use mathlib.Core.List.{List, ◌++◌}
+use mathlib.Core.List.{List}
 use native.Mathlib.Omega.{arith}
-use native.Mathlib.Decide.{dec_lt, ℕ_discrete}
+use native.Mathlib.Decide.{dec_lt}
 use lib.ListN.{length, take, drop, length-append}
-use lib.Seq.{take_at}
 use lib.Dec.{leb}
 use borrow.Author.Tests.{leb-true, le-leb, lt-leb}
 use borrow.Rule.Slice.PartMut.{mid_of, put_mid}
 use Rattle.rules.specs.Ranges.{first, over}
 use Rattle.rules.proofs.Ranges.{first_at}
-use Rattle.rules.proofs.Verdicts.{and_both, both_and}
+use Rattle.rules.proofs.Verdicts.{and_both}
 use Rattle.rules.proofs.Overs.{part_back}
 use Rattle.reading.specs.declared.Card.{Card}
 use Rattle.reading.specs.declared.Step.{Step}
 use Rattle.reading.specs.Card.{Reading, Next, reads, read_line}
-use Rattle.reading.specs.Held.{Areas, reading_of, Fit, next, Took}
+use Rattle.reading.specs.Held.{Areas, reading_of, Fit, Took}
 use Rattle.card.specs.Files.{fed, reads_on, pieces_read, RanTo, Ran}
 
 -- a card that has read m pieces from a first reading on, each of which was to be read

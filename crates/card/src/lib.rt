@@ -1,4 +1,6 @@
 // A course file line after line from the start of some bytes, and its end.
+#![tactic(auto)]
+
 ghost use Rattle.std.specs.Prelude.{◌≤◌, ◌<◌, ◌≡◌, ◌&&◌, length, leb};
 ghost use Rattle.rules.specs.Ranges.{over};
 ghost use Rattle.reading.specs.Card as rule;
