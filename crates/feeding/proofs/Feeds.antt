@@ -2,20 +2,19 @@
 -- and the end what the run has not written.
 -- Assumes nothing.
 use Prim.Native.Nat.{ℕ, ◌+◌, ◌-◌, ◌*◌, ◌/◌, ◌≤◌, ◌<◌}
-use mathlib.Core.Path.{◌≡◌, refl, sym, ap, ◌∙◌}
+use mathlib.Core.Path.{◌≡◌, sym, ap, ◌∙◌}
 use mathlib.Core.Bool.{Bool, true, false, not, ◌||◌}
-use mathlib.Core.List.{List, [], ◌++◌, append_assoc, append-nil}
+use mathlib.Core.List.{List, ◌++◌, append_assoc, append-nil}
 use native.Mathlib.Omega.{arith}
 use lib.ListN.{length, take, drop, length-append, length-drop, take-append-drop}
 use lib.Seq.{drop-append-le, length-take-le}
 use lib.Dec.{ltb}
 use borrow.Author.Tests.{ltb-true}
 use borrow.Rule.Slice.PartMut.{mid_of, put_mid}
-use Rattle.rules.specs.Ranges.{first, over}
+use Rattle.rules.specs.Ranges.{over}
 use Rattle.rules.proofs.Ranges.{first_le}
 use Rattle.rules.proofs.Verdicts.{and_both}
 use Rattle.rules.proofs.Overs.{rest_is, part_back}
-use Rattle.reading.specs.declared.Card.{Card}
 use Rattle.reading.specs.Card.{Reading, reads}
 use Rattle.reading.specs.Held.{Areas, reading_of}
 use Rattle.card.specs.declared.Progress.{Progress}

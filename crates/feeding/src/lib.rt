@@ -1,5 +1,7 @@
 // The bytes of a course file as they come in blocks: whole lines are read, and what is left waits for more, unless nothing that may come
 // can make a frame of it.
+#![tactic(auto)]
+
 ghost use Rattle.std.specs.Prelude.{◌≤◌, ◌≡◌, length};
 ghost use Rattle.reading.specs.Held.{lent, entered, left, reading_of, Fit};
 ghost use Rattle.feeding.specs.Feeding.{has_line_feed, is_last, FedTo};
