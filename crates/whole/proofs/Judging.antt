@@ -151,7 +151,7 @@ module _ (s : ℕ → ℕ) (k : ℕ) (words directory : List ℕ) where
         unfolding areas_fault first_failing
         areas_none t₇ = rw (t₄, t₅, t₆, t₇)
 
--- the same by the first bits of the vectors: their list ends with the number of all bits
+-- the list of first bits ends with the number of all bits
 module _ {s : ℕ → ℕ} {k : ℕ} {row : List ℕ} (known : Lengths s k) (rows : row ≡ row_starts s k) where
   pub last_bits : get_or row k 0 ≡ room_bits s k
   last_bits = ap (λ (row : List ℕ). get_or row k 0) rows ∙ starts_at s k k (omega arith) known.few_tracks ∙ offset_last s k
@@ -159,36 +159,36 @@ module _ {s : ℕ → ℕ} {k : ℕ} {row : List ℕ} (known : Lengths s k) (row
   pub few_bits : get_or row k 0 ≤ 65536
   few_bits = omega (arith, last_bits, room_most s k known.few_units known.few_tracks)
 
-  count_is : (get_or row k 0 + 63) / 64 ≡ word_count s k
+-- the same by the number of bits
+module _ (s : ℕ → ℕ) (k : ℕ) (words directory : List ℕ) (bits : ℕ) (all : bits ≡ room_bits s k) where
+  pub count_is : (bits + 63) / 64 ≡ word_count s k
   unfolding word_count
-  count_is = rw last_bits
+  count_is = rw all
 
-  module _ (words directory : List ℕ) where
-    pub reach_both : (get_or row k 0 + 63) / 64 ≤ length words → (get_or row k 0 + 63) / 64 ≤ length directory → areas_reach s k words directory ≡ true
-    unfolding areas_reach
-    reach_both l h = rw (sym count_is) (both_and (le-leb _ _ l) (le-leb _ _ h))
+  pub reach_both : (bits + 63) / 64 ≤ length words → (bits + 63) / 64 ≤ length directory → areas_reach s k words directory ≡ true
+  unfolding areas_reach
+  reach_both l h = rw (sym count_is) (both_and (le-leb _ _ l) (le-leb _ _ h))
 
-    pub reach_words : length words < (get_or row k 0 + 63) / 64 → areas_reach s k words directory ≡ false
-    unfolding areas_reach
-    reach_words l = rw (sym count_is) (no_and _ (lt-leb _ _ l))
+  pub reach_words : length words < (bits + 63) / 64 → areas_reach s k words directory ≡ false
+  unfolding areas_reach
+  reach_words l = rw (sym count_is) (no_and _ (lt-leb _ _ l))
 
-    pub reach_directory : length directory < (get_or row k 0 + 63) / 64 → areas_reach s k words directory ≡ false
-    unfolding areas_reach
-    reach_directory l = and_no (leb (word_count s k) (length words)) (lt-leb (word_count s k) (length directory) (omega (arith, count_is)))
+  pub reach_directory : length directory < (bits + 63) / 64 → areas_reach s k words directory ≡ false
+  unfolding areas_reach
+  reach_directory l = rw (sym count_is) (and_no (leb ((bits + 63) / 64) (length words)) (lt-leb _ _ l))
 
-    pub spare_is : spare_clear s k words ≡ every (λ i. eqb (bit words (get_or row k 0 + i)) 0) (64 * ((get_or row k 0 + 63) / 64) - get_or row k 0)
-    unfolding spare_clear
-    spare_is = rw (sym count_is, sym last_bits)
+  pub spare_is : spare_clear s k words ≡ every (λ i. eqb (bit words (bits + i)) 0) (64 * ((bits + 63) / 64) - bits)
+  unfolding spare_clear
+  spare_is = rw (sym count_is, sym all)
 
-    pub directory_is : directory_true s k words directory ≡ every (λ j. eqb (get_or directory j 0) (ones_before words j)) ((get_or row k 0 + 63) / 64)
-    unfolding directory_true
-    directory_is = rw (sym count_is)
+  pub directory_is : directory_true s k words directory ≡ every (λ j. eqb (get_or directory j 0) (ones_before words j)) ((bits + 63) / 64)
+  unfolding directory_true
+  directory_is = rw (sym count_is)
 
-    pub areas_known : (get_or row k 0 + 63) / 64 ≤ length words → (get_or row k 0 + 63) / 64 ≤ length directory → directory_true s k words directory ≡ true
-        → TrueTo words directory (word_count s k)
-    unfolding directory_true
-    areas_known l h t j b = record {
-      word = omega (arith, count_is);
-      entry = omega (arith, count_is);
-      true_there = eqb-true _ _ (every_one (λ j. eqb (get_or directory j 0) (ones_before words j)) (word_count s k) j t b);
-    }
+  pub areas_known : (bits + 63) / 64 ≤ length words → (bits + 63) / 64 ≤ length directory → directory_true s k words directory ≡ true → TrueTo words directory (word_count s k)
+  unfolding directory_true
+  areas_known l h t j b = record {
+    word = omega (arith, count_is);
+    entry = omega (arith, count_is);
+    true_there = eqb-true _ _ (every_one (λ j. eqb (get_or directory j 0) (ones_before words j)) (word_count s k) j t b);
+  }
