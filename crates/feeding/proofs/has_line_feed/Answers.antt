@@ -1,3 +1,4 @@
+-- `feeding::has_line_feed`: what the check leaves open; why it holds is said with the invariant. Assumes nothing.
 use mathlib.Core.Path.{◌≡◌, refl, ◌∙◌}
 use native.Mathlib.Omega.{arith}
 use native.Mathlib.Numerals.{add-one}

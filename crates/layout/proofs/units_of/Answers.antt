@@ -1,3 +1,4 @@
+-- `layout::units_of`: what the check leaves open; why it holds is said with the invariant. Assumes nothing.
 use mathlib.Core.Path.{◌≡◌, sym, ap}
 use native.Mathlib.Omega.{arith}
 use Rattle.rules.specs.Ranges.{sum}

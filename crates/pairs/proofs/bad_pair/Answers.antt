@@ -1,3 +1,4 @@
+-- `pairs::bad_pair`: what the check leaves open; why it holds is said with the invariant. Assumes nothing.
 use Prim.Native.Nat.{◌/◌}
 use mathlib.Core.Path.{◌≡◌, sym, ◌∙◌}
 use native.Mathlib.Omega.{arith}

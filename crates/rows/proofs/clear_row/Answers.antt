@@ -1,3 +1,4 @@
+-- `rows::clear_row`: what the check leaves open; why it holds is said with the invariant. Assumes nothing.
 use mathlib.Core.Path.{◌≡◌, refl}
 use native.Mathlib.Omega.{arith}
 use Rattle.rows.proofs.RowsWritten.{row_write}

@@ -1,3 +1,4 @@
+-- `rows::fill_rows`: what the check leaves open; why it holds is said with the invariant. Assumes nothing.
 use native.Mathlib.Omega.{arith}
 use lib.ListN.{get_or}
 use Rattle.rules.proofs.Tracks.{in_le}

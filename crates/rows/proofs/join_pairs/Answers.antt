@@ -1,3 +1,4 @@
+-- `rows::join_pairs`: what the check leaves open; why it holds is said with the invariant. Assumes nothing.
 use native.Mathlib.Omega.{arith}
 use Rattle.rows.proofs.UnitPairs.{row_to_start, row_to_more, row_to_end}
 use Rattle.rows.proofs.join_pairs.Goals as goal

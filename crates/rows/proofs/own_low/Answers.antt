@@ -1,3 +1,4 @@
+-- `rows::own_low`: what the check leaves open; why it holds is said with the invariant. Assumes nothing.
 use native.Mathlib.Omega.{arith}
 use Rattle.rows.proofs.UnitPairs.{low_to_start, low_to_more, low_to_end}
 use Rattle.rows.proofs.own_low.Goals as goal

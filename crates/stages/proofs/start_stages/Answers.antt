@@ -1,3 +1,4 @@
+-- `stages::start_stages`: what the check leaves open; why it holds is said with the invariant. Assumes nothing.
 use native.Mathlib.Omega.{arith}
 use lib.ListN.{length-set}
 use Rattle.rules.proofs.Ranges.{table_is}

@@ -1,3 +1,4 @@
+-- `tracks::greatest_track`: what the check leaves open; why it holds is said with the invariant. Assumes nothing.
 use mathlib.Core.Path.{◌≡◌, sym, ap, ◌∙◌}
 use native.Mathlib.Omega.{arith}
 use lib.ListN.{length, get_or}

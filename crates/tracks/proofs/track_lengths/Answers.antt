@@ -1,3 +1,4 @@
+-- `tracks::track_lengths`: what the check leaves open; why it holds is said with the invariant. Assumes nothing.
 use Prim.Native.Nat.{ℕ, ◌+◌, ◌≤◌, ◌<◌}
 use mathlib.Core.Path.{◌≡◌, refl, sym, ap, ◌∙◌}
 use mathlib.Core.List.{List}

@@ -1,3 +1,4 @@
+-- `words::fill_directory`: what the check leaves open; why it holds is said with the invariant. Assumes nothing.
 use Prim.Native.Nat.{◌+◌}
 use mathlib.Core.Path.{◌≡◌, sym, ap, ◌∙◌}
 use native.Mathlib.Omega.{arith}

@@ -1,3 +1,4 @@
+-- `words::one_in_word`: what the check leaves open; why it holds is said with the invariant. Assumes nothing.
 use mathlib.Core.Path.{refl}
 use Rattle.words.proofs.Halves.{seeks_all, halving_next, halving_last}
 use Rattle.words.proofs.one_in_word.Goals as goal

@@ -1,3 +1,4 @@
+-- `words::word_of_one`: what the check leaves open; why it holds is said with the invariant. Assumes nothing.
 use Prim.Native.Nat.{◌-◌, ◌/◌}
 use native.Mathlib.Omega.{arith}
 use Rattle.words.proofs.Searches.{narrowed_all, narrowed_left, narrowed_right, narrowed_one, less_left, less_right}
