@@ -77,7 +77,8 @@ pub fn finish(card: Card, rest: &[u8], out: &mut [u8]) -> usize
     if !reading::is_reading(card) {
         return 0;
     }
-    if 0 < rest.len() {
+    let torn = 0 < rest.len();
+    if torn {
         return answers::put_refused(out, Refusal::NoFrame(card.lines + 1));
     }
     if !reading::is_unfinished(card) {

@@ -180,7 +180,8 @@ pub fn check(head: Head, tracks: &[u16], words: &[u64], directory: &[u16]) -> Ve
     ensures { result ≡ whole_verdict (index head tracks.now words.now directory.now) }
 {
     let judged = judge(head, tracks, words, directory);
-    if judged.fault == 0 {
+    let sound = judged.fault == 0;
+    if sound {
         Verdict::Fine
     } else {
         Verdict::Refused(Refusal::NotWhole)

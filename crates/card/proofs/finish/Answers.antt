@@ -15,24 +15,24 @@ returns-then-not-is_reading c = λ a.
     let s = c.args in
     rw (rest_stopped (reading_of s.card a) s.rest.now (sym c.is_reading.ensures ∙ c.if-not-is_reading.true)) (refl, over_none s.out.now)
 
-pub returns-then-rest-gt0 : goal.returns-then-rest-gt0
-returns-then-rest-gt0 c = λ a.
+pub returns-then-torn : goal.returns-then-torn
+returns-then-torn c = λ a.
     let s = c.args in
     let said = c.put_refused.ensures in
     let reads = sym c.is_reading.ensures ∙ c.if-not-is_reading.false in
-    rw (rest_refused (reading_of s.card a) s.rest.now reads c.if-rest-gt0.true (omega arith))
+    rw (rest_refused (reading_of s.card a) s.rest.now reads (omega arith) (omega arith))
     (said.0 ∙ sym (length-refused (NoFrame (s.card.lines + 1))), said.1)
 
 pub returns-then-not-is_unfinished : goal.returns-then-not-is_unfinished
 returns-then-not-is_unfinished c = λ a.
     let s = c.args in
     let done = sym c.is_unfinished.ensures ∙ c.if-not-is_unfinished.true in
-    rw (rest_none (reading_of s.card a) s.rest.now c.if-rest-gt0.false, done) (refl, over_none s.out.now)
+    rw (rest_none (reading_of s.card a) s.rest.now (omega arith), done) (refl, over_none s.out.now)
 
 pub returns : goal.returns
 returns c = λ a.
     let s = c.args in
     let said = c.put_refused-2.ensures in
     let early = sym c.is_unfinished.ensures ∙ c.if-not-is_unfinished.false in
-    rw (rest_none (reading_of s.card a) s.rest.now c.if-rest-gt0.false, early)
+    rw (rest_none (reading_of s.card a) s.rest.now (omega arith), early)
     (said.0 ∙ sym (length-refused (FrameOrder (s.card.lines + 1))), said.1)

@@ -7,14 +7,14 @@ use Rattle.rules.proofs.Verdicts.{fine_unless, refused-unless}
 use Rattle.whole.proofs.Judging.{judged-whole, judged-not}
 use Rattle.whole.proofs.check.Goals as goal
 
-pub returns-then-judged-eq0 : goal.returns-then-judged-eq0
+pub returns-then-sound : goal.returns-then-sound
 unfolding whole_verdict
-returns-then-judged-eq0 c =
+returns-then-sound c =
     let a = c.args in
-    sym (fine_unless NotWhole (judged-whole (index a.head a.tracks.now a.words.now a.directory.now) _ c.judge-judged.ensures c.if-judged-eq0.true).0)
+    sym (fine_unless NotWhole (judged-whole (index a.head a.tracks.now a.words.now a.directory.now) _ c.judge-judged.ensures c.if-sound.true).0)
 
-pub returns-else-judged-eq0 : goal.returns-else-judged-eq0
+pub returns-else-sound : goal.returns-else-sound
 unfolding whole_verdict
-returns-else-judged-eq0 c =
+returns-else-sound c =
     let a = c.args in
-    sym (refused-unless NotWhole (judged-not (index a.head a.tracks.now a.words.now a.directory.now) _ c.judge-judged.ensures c.if-judged-eq0.false))
+    sym (refused-unless NotWhole (judged-not (index a.head a.tracks.now a.words.now a.directory.now) _ c.judge-judged.ensures c.if-sound.false))
