@@ -162,7 +162,7 @@ def main():
     words.add_argument("--all", action="store_true")
     words.add_argument("--jobs", type=int, default=2)
     asked = words.parse_args()
-    listed = [x.split(":")[0].strip() for x in (root / "crates.txt").read_text(encoding="utf-8").split("\n") if ":" in x.split("#")[0]]
+    listed = [x.split(":")[0].split()[0] for x in (root / "crates.txt").read_text(encoding="utf-8").split("\n") if ":" in x.split("#")[0]]
     crates = asked.crates or listed
     possible = [x for c in crates for x in changes(c)]
     drawn = possible if asked.all else random.Random(asked.seed).sample(possible, min(asked.count, len(possible)))
@@ -172,7 +172,7 @@ def main():
         copies = queue.Queue()
         for number in range(asked.jobs):
             copy = pathlib.Path(room) / str(number)
-            shutil.copytree(root / "crates", copy / "crates")
+            shutil.copytree(root / "crates", copy / "crates", ignore=shutil.ignore_patterns("out"))
             shutil.copy(root / "crates.txt", copy)
             for crate in sorted({x.crate for x in drawn}):
                 status, log = prove(copy, crate)

@@ -19,7 +19,7 @@ use Rattle.rules.specs.Ranges.{over}
 use Rattle.rules.specs.Index.{Index}
 use Rattle.rules.specs.Questions.{kind16, kind17, kind18}
 use Rattle.rules.specs.Outcomes.{ListOutcome, unit_verdict, track_verdict, whole_verdict, yes_or_no, pair_outcome, unit_outcome, bound_outcome, list_room, written_from, list_answer}
-use Rattle.rules.proofs.Ranges.{get_d_table}
+use Rattle.rules.proofs.Ranges.{get_or-table}
 use Rattle.rules.proofs.Verdicts.{is_within, not_within, fine_unless, refused-unless}
 use Rattle.known.specs.Asked.{UnitOf}
 use Rattle.answers.specs.Printed.{refused_line, list_line}
@@ -120,7 +120,7 @@ module _ {card : Card} {tracks words directory : List ℕ} (ready : Ready card t
     pub stage_read : UnitOf tracks u → {stages : List ℕ} → stages ≡ stages_of x → get_or stages (u - 1) 0 ≡ kind16 x u
     stage_read h e =
         let f : u - 1 + 1 ≡ u = omega (arith, h.from) in
-        rw e (get_d_table (λ i. kind16 x (i + 1)) (length tracks) (u - 1) (omega (arith, h.from, h.to)) ∙ ap (kind16 x) f)
+        rw e (get_or-table (λ i. kind16 x (i + 1)) (length tracks) (u - 1) (omega (arith, h.from, h.to)) ∙ ap (kind16 x) f)
 
     pub number_stage : kind ≡ 0x16 → UnitOf tracks u → number_asked x kind u q ≡ number.Number (kind16 x u)
     unfolding unit_outcome

@@ -18,7 +18,7 @@ use Rattle.rules.specs.Order.{low}
 use Rattle.rules.specs.Layout.{offset, room_bits, word_count}
 use Rattle.rules.specs.Bits.{digit, bit, ones_before}
 use Rattle.rules.specs.Index.{one_at, built_bit, built_count, built_words, built_directory, built_work, lens_of}
-use Rattle.rules.proofs.Ranges.{bit1_le, some-bit, some_same, length-table, get_d_table, get_d_rows}
+use Rattle.rules.proofs.Ranges.{bit1_le, some-bit, some_same, length-table, get_or-table, get_d_rows}
 use Rattle.rules.proofs.Overs.{over-whole}
 use Rattle.rules.proofs.Bits.{Words, bit_le, words_by_bits}
 use Rattle.rules.proofs.Layouts.{offset_same, offset-within, vector_other, room_holds, words_hold, words_most, offset_last}
@@ -82,7 +82,7 @@ one_here c x i = some (λ q. not (eqb q (track c.tracks (i + 1))) && eqb (one_at
 
 module _ {c : Listing} {lens : List ℕ} (a : Accepted c) (lens_are : lens ≡ table (size c.tracks) 32) where
   pub lens_at : (q : ℕ) → q < c.k → lens_of lens q ≡ size c.tracks q
-  lens_at q l = rw lens_are (get_d_table (size c.tracks) 32 q (omega (arith, a.k_in)))
+  lens_at q l = rw lens_are (get_or-table (size c.tracks) 32 q (omega (arith, a.k_in)))
 
   pub count_is : word_count (lens_of lens) c.k ≡ built_count c
   count_is = layouts.words_same (lens_of lens) (size c.tracks) c.k lens_at
@@ -161,7 +161,7 @@ zero_there : (m j : ℕ) → get_or (table (λ j. 0) m) j 0 ≡ 0
 zero_there m j = go (dec_lt j m)
   where
     go : Dec (j < m) → get_or (table (λ j. 0) m) j 0 ≡ 0
-    go (yes l) = get_d_table (λ j. 0) m j l
+    go (yes l) = get_or-table (λ j. 0) m j l
     go (no n) = get_or-eq_default (table (λ j. 0) m) 0 (omega (arith, length-table (λ j. 0) m))
 
 pub filled_start : (c : Listing) (words : List ℕ) → words ≡ table (λ j. 0) (built_count c) → Filled c words 0

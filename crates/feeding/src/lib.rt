@@ -31,6 +31,7 @@ fn has_line_feed(bytes: &[u8]) -> bool
 }
 
 // Whether the bytes that are left are all of their line: fewer than a frame has, at the end of the file or with a line feed among them.
+#[tactic(auto, unfolding(crate::specs::Feeding::is_last))]
 fn is_last(rest: &[u8], ended: bool) -> bool
     ensures { result ≡ is_last rest.now ended }
 {

@@ -27,6 +27,7 @@ pub enum Numbers {
 }
 
 // What a digit stands for, 16 where the byte is none.
+#[tactic(auto, unfolding(crate::specs::Lines::digit_of))]
 fn digit(b: u8) -> u8
     ensures { result ≡ digit_of b }
 {

@@ -12,7 +12,7 @@ use Rattle.rules.specs.Listing.{track, position}
 use Rattle.rules.specs.Index.{Index, sizes, low_at, low_in, high_in}
 use Rattle.rules.specs.Questions.{kind10_by, kind11_by, kind10, kind11, units_where, kind12, kind13}
 use Rattle.rules.specs.Ranges.{every}
-use Rattle.rules.proofs.Ranges.{every_same, get_d_table, table_to}
+use Rattle.rules.proofs.Ranges.{every_same, get_or-table, table_to}
 use Rattle.rules.proofs.Verdicts.{no_and}
 use Rattle.rules.proofs.Wholes.{Whole, whole_is, unit_track, unit_position, sizes_are, low_in_most, high_in_most, needs_by_high, low_blocks, step_blocks}
 use Rattle.bounds.specs.Known.{Known, Standing, none_reaches}
@@ -31,7 +31,7 @@ highs_of x u = table_to (high_in x u) 32 x.head.k
 
 -- entry q of a table that is filled for the first k tracks
 entry_is : (f : ℕ → ℕ) {k q : ℕ} → k ≤ 32 → q < k → get_or (table_to f 32 k) q 0 ≡ f q
-entry_is f {k} {q} few l = get_d_table _ 32 q (omega arith) ∙ rw (lt-ltb q k l)
+entry_is f {k} {q} few l = get_or-table _ 32 q (omega arith) ∙ rw (lt-ltb q k l)
 
 -- ---- the index
 

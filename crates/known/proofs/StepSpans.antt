@@ -16,7 +16,7 @@ use Rattle.rules.specs.Listing.{track, size, position}
 use Rattle.rules.specs.Order.{highest_step}
 use Rattle.rules.specs.Index.{Index, sizes, low_in}
 use Rattle.rules.specs.Questions.{kind11, units_where, kind14, kind15}
-use Rattle.rules.proofs.Ranges.{true_or_false, not_both, every_same, length-table, get_d_table, table_is, table_same}
+use Rattle.rules.proofs.Ranges.{true_or_false, not_both, every_same, length-table, get_or-table, table_is, table_same}
 use Rattle.rules.proofs.Verdicts.{and_both, both_and, no_and, and_no, same_test}
 use Rattle.rules.proofs.Wholes.{sizes_are, low_blocks, high_blocks, step_at-low, step_at-high}
 use Rattle.bounds.specs.Known.{Standing, none_reaches, reaches_none}
@@ -63,7 +63,7 @@ module _ (passes : ℕ → Bool) (at : List ℕ) (d : ℕ) where
       at_each j h (yes e) =
           rw (e, lt-ltb i (i + 1) (omega arith), t) (get_or-set_same (filled i) i (get_or at i 0) 0 (rw length-table l))
       at_each j h (no n) =
-          get_or-set_other (filled i) i j (get_or at i 0) 0 n ∙ get_d_table _ 32 j h
+          get_or-set_other (filled i) i j (get_or at i 0) 0 n ∙ get_or-table _ 32 j h
           ∙ ap (λ b. cond b (get_or at j 0) d) (below_next i j (λ e. absurd (n e)))
 
   -- all that pass are below m
@@ -114,7 +114,7 @@ in_one : (passes : ℕ → Bool) (at ts : List ℕ) (v : ℕ) → track ts v < 3
     → in_spans (one_from passes at) (one_to passes at) ts v ≡ (eqb (position ts v) (get_or at (track ts v) 0) && passes (track ts v))
 unfolding in_spans
 in_one passes at ts v l h =
-    rw (get_d_table (λ q. cond (passes q) (get_or at q 0) 1) 32 (track ts v) l, get_d_table (λ q. cond (passes q) (get_or at q 0) 0) 32 (track ts v) l)
+    rw (get_or-table (λ q. cond (passes q) (get_or at q 0) 1) 32 (track ts v) l, get_or-table (λ q. cond (passes q) (get_or at q 0) 0) 32 (track ts v) l)
     (go (passes (track ts v)) (position ts v) (get_or at (track ts v) 0) h)
   where
     stands : (i a : ℕ) → (leb a i && leb i a) ≡ eqb i a
@@ -131,8 +131,8 @@ in_one passes at ts v l h =
 held_one : (passes : ℕ → Bool) (at ts : List ℕ) (k : ℕ) → k ≤ 32
     → ((q : ℕ) → q < k → passes q ≡ true → (1 ≤ get_or at q 0) × (get_or at q 0 ≤ size ts q)) → Held (one_from passes at) (one_to passes at) ts k
 held_one passes at ts k few each = record {
-  starts = λ q l. rw (get_d_table (λ q. cond (passes q) (get_or at q 0) 1) 32 q (omega arith)) (start q l (true_or_false (passes q)));
-  ends = λ q l. rw (get_d_table (λ q. cond (passes q) (get_or at q 0) 0) 32 q (omega arith)) (end q l (true_or_false (passes q)));
+  starts = λ q l. rw (get_or-table (λ q. cond (passes q) (get_or at q 0) 1) 32 q (omega arith)) (start q l (true_or_false (passes q)));
+  ends = λ q l. rw (get_or-table (λ q. cond (passes q) (get_or at q 0) 0) 32 q (omega arith)) (end q l (true_or_false (passes q)));
 }
   where
     start : (q : ℕ) → q < k → (passes q ≡ true) ⊎ (passes q ≡ false) → 1 ≤ cond (passes q) (get_or at q 0) 1

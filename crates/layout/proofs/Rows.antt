@@ -11,7 +11,7 @@ use lib.Dec.{leb}
 use borrow.Author.Tests.{le-leb, lt-leb}
 use Rattle.rules.specs.Ranges.{sum, table}
 use Rattle.rules.specs.Layout.{offset}
-use Rattle.rules.proofs.Ranges.{sum_none, length-table, get_d_table, table_is}
+use Rattle.rules.proofs.Ranges.{sum_none, length-table, get_or-table, table_is}
 use Rattle.rules.proofs.Layouts.{offset-start}
 use Rattle.layout.specs.Starts.{start_at, row_starts}
 
@@ -31,10 +31,10 @@ module _ (s : ℕ → ℕ) (k : ℕ) where
       rw (lt-leb (q + 33) 32 (omega arith), e, le-leb q p h)
 
   pub starts_in : (p i : ℕ) → i ≤ p → p ≤ 32 → get_or (starts_to p) i 0 ≡ offset s k i 0
-  starts_in p i h few = get_d_table _ 66 i (omega arith) ∙ start_row p i h few
+  starts_in p i h few = get_or-table _ 66 i (omega arith) ∙ start_row p i h few
 
   pub units_in : (p q : ℕ) → q ≤ p → p ≤ 32 → get_or (starts_to p) (q + 33) 0 ≡ sum s q
-  units_in p q h few = get_d_table _ 66 (q + 33) (omega arith) ∙ start_units p q h
+  units_in p q h few = get_or-table _ 66 (q + 33) (omega arith) ∙ start_units p q h
 
   pub starts_at : (p : ℕ) → p ≤ k → k ≤ 32 → get_or (row_starts s k) p 0 ≡ offset s k p 0
   unfolding row_starts
@@ -99,7 +99,7 @@ module _ (s : ℕ → ℕ) (k : ℕ) where
       at_each i h (no a) (no b) =
           get_or-set_other (set (starts_to p) (p + 1) v) (p + 34) i w 0 (λ g. b (omega arith))
           ∙ get_or-set_other (starts_to p) (p + 1) i v 0 (λ g. a (omega arith))
-          ∙ get_d_table _ 66 i h ∙ start_kept p i l a b
+          ∙ get_or-table _ 66 i h ∙ start_kept p i l a b
 
   pub starts_all : starts_to k ≡ row_starts s k
   unfolding row_starts

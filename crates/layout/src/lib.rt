@@ -31,6 +31,7 @@ fn times(count: usize, number: usize) -> usize
 }
 
 // The bits of vector p,q, which starts where the one before it ends; none for a track with itself.
+#[tactic(auto, unfolding(rules::specs::Layout::vector_room, rules::specs::Layout::vector_bits))]
 pub fn vector_room(lens: &[u16; 32], p: usize, q: usize) -> usize
     requires { (p < 32) × (q < 32) }
     ensures value { result ≡ vector_room (lens_of lens.now) p q }

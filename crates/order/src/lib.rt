@@ -39,7 +39,8 @@ fn frame_in_phase(
             opening::track_frame(card, frame.a, frame.b, tracks, out)
         }
         Phase::Needs => {
-            if frame.kind == 0x03 {
+            let is_need = frame.kind == 0x03;
+            if is_need {
                 return filing::need_frame(card, frame.a, frame.b, needs, out);
             }
             if frame.kind != 0x04 {
@@ -93,7 +94,8 @@ pub fn read(
     let Line::IsFrame(frame) = frames::read_line(line) else {
         return reading::refuse(next, Refusal::NoFrame(next.lines), out);
     };
-    if rules::MAX_LINES < next.lines {
+    let late = rules::MAX_LINES < next.lines;
+    if late {
         return reading::misplaced(next, out);
     }
     frame_in_phase(

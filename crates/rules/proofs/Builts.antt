@@ -20,7 +20,7 @@ use Rattle.rules.specs.Layout.{vector_room, offset, room_bits, word_count}
 use Rattle.rules.specs.Bits.{bit, word_of, ones_before}
 use Rattle.rules.specs.Index.{one_at, built_bit, built_count, built_words, built_directory, built_head, built_work, built_bits, built_index, sizes, vector_of, vector, low_in, high_in, whole}
 use Rattle.rules.specs.Questions.{kind10_by, kind11_by, kind10, kind11, unit_at}
-use Rattle.rules.proofs.Ranges.{true_or_false, bit1_le, some_yes, some_find, every_same, length-table, get_d_table, length-rows}
+use Rattle.rules.proofs.Ranges.{true_or_false, bit1_le, some_yes, some_find, every_same, length-table, get_or-table, length-rows}
 use Rattle.rules.proofs.Verdicts.{and_both}
 use Rattle.rules.proofs.Bits.{Words, digit_word, word_lt, bit_in, ones_before_le}
 use Rattle.rules.proofs.Places.{FromLow, vector_from_low}
@@ -52,11 +52,11 @@ module _ (c : Listing) where
 
   pub word_built : (j : ℕ) → j < built_count c → get_or (built_words c) j 0 ≡ word_of (λ i. built_bit c (64 * j + i))
   unfolding built_words
-  word_built j l = get_d_table (λ j. word_of (λ i. built_bit c (64 * j + i))) (built_count c) j l
+  word_built j l = get_or-table (λ j. word_of (λ i. built_bit c (64 * j + i))) (built_count c) j l
 
   pub directory_built : (j : ℕ) → j < built_count c → get_or (built_directory c) j 0 ≡ ones_before (built_words c) j
   unfolding built_directory
-  directory_built j l = get_d_table (ones_before (built_words c)) (built_count c) j l
+  directory_built j l = get_or-table (ones_before (built_words c)) (built_count c) j l
 
   pub words_built : Words (built_words c)
   words_built j = go (dec_lt j (built_count c))
@@ -236,7 +236,7 @@ module _ (c : Listing) (a : Accepted c) where
 module _ (c : Listing) where
   pub sizes_built : (q : ℕ) → q < 32 → sizes (built_index c) q ≡ size c.tracks q
   unfolding built_index built_head
-  sizes_built q l = get_d_table (size c.tracks) 32 q l
+  sizes_built q l = get_or-table (size c.tracks) 32 q l
 
 module _ (c : Listing) (a : Accepted c) where
   -- the layout of the built index is that of the listing

@@ -1,5 +1,5 @@
 -- Where each vector stands: a vector starts where the room before it ends, so no two rooms meet and no bit stands in two; and the bits and words in all.
--- All of it is read off the sums of the layout. Only room-holds, room-is, room-meant, room-all and room-same know what a room is.
+-- All of it is read off the sums of the layout. Only room_holds, room_is, room_meant, room_all and room_same know what a room is.
 -- Assumes nothing.
 use Prim.Native.Nat.{ℕ, zero, suc, ◌+◌, ◌-◌, ◌*◌, ◌≤◌, ◌<◌}
 use mathlib.Core.Path.{◌≡◌, refl, sym, ap}

@@ -453,10 +453,10 @@ module _ (f : ℕ → ℕ) where
   unfolding table
   table-next m = rw add-one
 
-  pub get_d_table : (m i : ℕ) → i < m → get_or (table f m) i 0 ≡ f i
+  pub get_or-table : (m i : ℕ) → i < m → get_or (table f m) i 0 ≡ f i
   unfolding table
-  get_d_table zero i h = absurd (omega arith)
-  get_d_table (suc m) i h = go (get_d_table m i) (last_or_before h)
+  get_or-table zero i h = absurd (omega arith)
+  get_or-table (suc m) i h = go (get_or-table m i) (last_or_before h)
     where
       go : (i < m → get_or (table f m) i 0 ≡ f i) → (i ≡ m) ⊎ (i < m) → get_or (table f m ++ (f m ∷ [])) i 0 ≡ f i
       go below (inl e) = rw (e, get_or_at (table f m) (f m) [] 0 m (length-table m))
@@ -464,7 +464,7 @@ module _ (f : ℕ → ℕ) where
 
 -- a list whose entries are those of f is its table
 pub table_is : (f : ℕ → ℕ) (l : List ℕ) (m : ℕ) → length l ≡ m → ((i : ℕ) → i < m → get_or l i 0 ≡ f i) → l ≡ table f m
-table_is f l m e h = ext_get_or 0 l (table f m) (e ∙ sym (length-table f m)) (λ i q. let l' : i < m = rw e at q in h i l' ∙ sym (get_d_table f m i l'))
+table_is f l m e h = ext_get_or 0 l (table f m) (e ∙ sym (length-table f m)) (λ i q. let l' : i < m = rw e at q in h i l' ∙ sym (get_or-table f m i l'))
 
 pub table_same : (f g : ℕ → ℕ) (m : ℕ) → ((i : ℕ) → i < m → f i ≡ g i) → table f m ≡ table g m
 unfolding table
@@ -484,7 +484,7 @@ module _ (f : ℕ → ℕ → ℕ) (k : ℕ) where
     where
       go : (i < m → get_or (rows f m k) (i * k + q) 0 ≡ f i q) → (i ≡ m) ⊎ (i < m) → get_or (rows f m k ++ table (f m) k) (i * k + q) 0 ≡ f i q
       go below (inl e) =
-          rw (e, sym (length-rows m), get_or-append-add (rows f m k) (table (f m) k) q 0) (get_d_table (f m) k q l)
+          rw (e, sym (length-rows m), get_or-append-add (rows f m k) (table (f m) k) q 0) (get_or-table (f m) k q l)
       go below (inr h') = get_or-append (rows f m k) (table (f m) k) 0 (i * k + q) (rw length-rows (digits_lt h' l)) ∙ below h'
 
 pub rows_same : (f g : ℕ → ℕ → ℕ) (m k : ℕ) → ((i q : ℕ) → f i q ≡ g i q) → rows f m k ≡ rows g m k
@@ -586,7 +586,7 @@ module _ (f : ℕ → ℕ) (m : ℕ) where
       table_is _ (set (table_to i) i (f i)) m (simp (length-set, length-table)) (λ j h. at_each j h (dec_lt j i) (dec_lt i j))
     where
       kept : (j : ℕ) → j < m → (j ≡ i → ⊥) → get_or (set (table_to i) i (f i)) j 0 ≡ cond (ltb j i) (f j) 0
-      kept j h n = get_or-set_other (table_to i) i j (f i) 0 n ∙ get_d_table _ m j h
+      kept j h n = get_or-set_other (table_to i) i j (f i) 0 n ∙ get_or-table _ m j h
 
       at_each : (j : ℕ) → j < m → Dec (j < i) → Dec (i < j) → get_or (set (table_to i) i (f i)) j 0 ≡ cond (ltb j (i + 1)) (f j) 0
       at_each j h (yes b) a = kept j h (λ e. omega arith) ∙ rw (lt-ltb j i b, lt-ltb j (i + 1) (omega arith))

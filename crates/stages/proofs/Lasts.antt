@@ -19,7 +19,7 @@ use Rattle.rules.specs.Listing.{Listing, Listed, pairs, upper, lower}
 use Rattle.rules.specs.Order.{Needs, DirectStep, step, above, highest_step, stage, sound_verdict}
 use Rattle.rules.specs.Index.{built_index}
 use Rattle.rules.specs.Questions.{kind11, kind16}
-use Rattle.rules.proofs.Ranges.{last_or_before, true_or_false, greatest_is, greatest_zero, length-table, get_d_table, table_is, table_same}
+use Rattle.rules.proofs.Ranges.{last_or_before, true_or_false, greatest_is, greatest_zero, length-table, get_or-table, table_is, table_same}
 use Rattle.rules.proofs.Paths.{path_down}
 use Rattle.rules.proofs.Needs.{Pairs, Below, ascends_far, listed_down, steps_listed, step_direct, direct_step}
 use Rattle.rules.proofs.Accepted.{Accepted}
@@ -195,7 +195,7 @@ module _ {n : ℕ} {l : List ℕ} (p : Pairs n l) where
   pub stages_few : (m : ℕ) → m ≤ pairs l → {xs : List ℕ} → xs ≡ stages_by l m n → (u : ℕ) → 1 ≤ u → u ≤ n → get_or xs (u - 1) 0 ≤ n
   stages_few m q e u from to =
       let f : u - 1 + 1 ≡ u = omega arith in
-      rw e (omega (arith, get_d_table (λ i. stage_by l m (i + 1)) n (u - 1) (omega arith), ap (stage_by l m) f, stage_by_most p m u q))
+      rw e (omega (arith, get_or-table (λ i. stage_by l m (i + 1)) n (u - 1) (omega arith), ap (stage_by l m) f, stage_by_most p m u q))
 
   -- one pair more
   pub stages_next : (m : ℕ) → m < pairs l
@@ -213,7 +213,7 @@ module _ {n : ℕ} {l : List ℕ} (p : Pairs n l) where
       read =
           let low = p.second_in m q in
           let e : lower l m - 1 + 1 ≡ lower l m = omega arith in
-          get_d_table (λ i. stage_by l m (i + 1)) n (lower l m - 1) (omega arith) ∙ ap (stage_by l m) e
+          get_or-table (λ i. stage_by l m (i + 1)) n (lower l m - 1) (omega arith) ∙ ap (stage_by l m) e
 
       made : (i : ℕ) → upper l m ≡ i + 1 → new ≡ stage_by l (suc m) (i + 1)
       made i e = omega (arith, read, stage_by_here l m (i + 1) e)
@@ -224,7 +224,7 @@ module _ {n : ℕ} {l : List ℕ} (p : Pairs n l) where
           rw f (get_or-set_same (stages_by l m n) i new 0 (rw length-table h) ∙ made i e)
       go i h (no d) =
           get_or-set_other (stages_by l m n) (upper l m - 1) i new 0 (λ e. d (omega (arith, up)))
-          ∙ get_d_table (λ i. stage_by l m (i + 1)) n i h
+          ∙ get_or-table (λ i. stage_by l m (i + 1)) n i h
           ∙ sym (stage_by_else l m (i + 1) d)
 
   pub stages_all : {m : ℕ} {xs : List ℕ} → xs ≡ stages_by l m n → m ≡ pairs l → xs ≡ stage_table l n

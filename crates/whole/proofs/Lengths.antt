@@ -11,7 +11,7 @@ use borrow.Author.Tests.{lt-ltb, le-ltb, le-leb, lt-leb, eq-eqb, ne_eqb, not-tru
 use Rattle.rules.specs.Ranges.{table}
 use Rattle.rules.specs.Listing.{size}
 use Rattle.rules.specs.Index.{lens_of}
-use Rattle.rules.proofs.Ranges.{get_d_table}
+use Rattle.rules.proofs.Ranges.{get_or-table}
 use Rattle.rules.proofs.Verdicts.{both_and, no_and, and_no}
 
 -- entry q is at least 1 for a track below k, and 0 beyond
@@ -34,7 +34,7 @@ length_used_lem length k q = go (dec_lt q k) (dec_lt 0 length)
 
 module _ (lens : List ℕ) (k : ℕ) (tracks counts : List ℕ) (counted : counts ≡ table (size tracks) 32) (q : ℕ) (inside : q < 32) where
   count_is : get_or counts q 0 ≡ size tracks q
-  count_is = rw counted (get_d_table (size tracks) 32 q inside)
+  count_is = rw counted (get_or-table (size tracks) 32 q inside)
 
   pub length_right : get_or lens q 0 ≡ get_or counts q 0 → not (beq (eqb (get_or lens q 0) 0) (leb k q)) ≡ false → length_true lens k tracks q ≡ true
   length_right e t = both_and (eq-eqb _ _ (e ∙ count_is)) (length_used_lem (get_or lens q 0) k q ∙ not-false _ t)

@@ -10,7 +10,7 @@ use lib.Dec.{ltb}
 use borrow.Author.Tests.{le-leb, lt-leb, lt-ltb}
 use Rattle.rules.specs.Ranges.{every, table}
 use Rattle.rules.specs.Index.{lens_of, low_at}
-use Rattle.rules.proofs.Ranges.{get_d_table}
+use Rattle.rules.proofs.Ranges.{get_or-table}
 use Rattle.rules.proofs.Vectors.{low_at_most}
 use Rattle.bounds.specs.Known.{none_reaches}
 use Rattle.bounds.proofs.Vectors.{ones_true}
@@ -23,7 +23,7 @@ abbrev lows_of : (ℕ → ℕ) → ℕ → List ℕ → ℕ → ℕ → List ℕ
 lows_of s k words p i = table (λ t. cond (ltb t k) (low_at s k words p i t) 0) 32
 
 low_there : (s : ℕ → ℕ) (k : ℕ) (words : List ℕ) (p i t : ℕ) → t < k → k ≤ 32 → get_or (lows_of s k words p i) t 0 ≡ low_at s k words p i t
-low_there s k words p i t h few = get_d_table _ 32 t (omega arith) ∙ rw (lt-ltb t k h)
+low_there s k words p i t h few = get_or-table _ 32 t (omega arith) ∙ rw (lt-ltb t k h)
 
 pub loop-t-init : goal.loop-t-init
 unfolding every

@@ -12,7 +12,7 @@ use Rattle.rules.specs.declared.Verdict.TheVariants.{Fine, Refused}
 use Rattle.rules.specs.Refusals.{unless}
 use Rattle.rules.specs.Ranges.{first, table}
 use Rattle.rules.specs.Listing.{Listing, listing, size, in_limits, refuse_first, pairs_verdict, listing_verdict}
-use Rattle.rules.proofs.Ranges.{first_same, get_d_table}
+use Rattle.rules.proofs.Ranges.{first_same, get_or-table}
 use Rattle.rules.proofs.Verdicts.{not_yes, fine_then, refused_then, fine_unless, refused-unless, refuse_fine, refuse_at, refuse_end}
 use Rattle.rules.proofs.Accepted.{WithinLimits, limits_in, in_limits_lem, counted_is, no_track, no_unit}
 use Rattle.listing.proofs.check.Goals as goal
@@ -63,7 +63,7 @@ module _ (a : Listing) where
             f
             ∙ first_same _ (no_unit a) a.k (λ p b.
             ap (λ (x : List ℕ). eqb (get_or x p 0) 0) s
-            ∙ ap (λ (x : ℕ). eqb x 0) (get_d_table (size a.tracks) 32 p (omega (arith, l.k_in))))
+            ∙ ap (λ (x : ℕ). eqb x 0) (get_or-table (size a.tracks) 32 p (omega (arith, l.k_in))))
 
         empty_track : q < a.k → Refused (EmptyTrack q) ≡ listing_verdict a
         unfolding listing_verdict

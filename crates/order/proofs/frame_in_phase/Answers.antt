@@ -37,17 +37,17 @@ pub track_frame-requires : goal.track_frame-requires
 track_frame-requires c =
     (c.in-Tracks.is, tracks_left c.requires.fit c.in-Tracks.is, enough (goal.at.track_frame-requires c).Start)
 
-pub returns-then-frame-eq3 : goal.returns-then-frame-eq3
-returns-then-frame-eq3 c =
+pub returns-then-is_need : goal.returns-then-is_need
+returns-then-is_need c =
     let a = c.args in
     let r = reading_of a.card (areas a.tracks.now a.needs.now a.words.now a.directory.now a.work.now a.list.now) in
-    rw (need_taken r a.frame c.in-Needs.is c.if-frame-eq3.true) (c.need_frame.ensures _ _ _ _ _ c.requires.fit)
+    rw (need_taken r a.frame c.in-Needs.is c.if-is_need.true) (c.need_frame.ensures _ _ _ _ _ c.requires.fit)
 
 pub returns-then-frame-ne4 : goal.returns-then-frame-ne4
 returns-then-frame-ne4 c =
     let a = c.args in
     let r = reading_of a.card (areas a.tracks.now a.needs.now a.words.now a.directory.now a.work.now a.list.now) in
-    rw (need_not r a.frame c.in-Needs.is c.if-frame-eq3.false c.if-frame-ne4.true) (c.misplaced-then-frame-ne4.ensures _ c.requires.fit.room)
+    rw (need_not r a.frame c.in-Needs.is c.if-is_need.false c.if-frame-ne4.true) (c.misplaced-then-frame-ne4.ensures _ c.requires.fit.room)
 
 pub end_frame-requires : goal.end_frame-requires
 end_frame-requires c =

@@ -32,16 +32,16 @@ returns-in_default c =
     rw (no_frame_line r a.line.now (reads_on (goal.at.returns-in_default c).Else-not-is_reading) (sym c.read_line.ensures ∙ c.in_default.is))
     (c.refuse.ensures _ (next_room c.requires.fit _ (lines_left (goal.at.returns-in_default c).Else-not-is_reading)))
 
-pub returns-then-next-gt-MAX_LINES : goal.returns-then-next-gt-MAX_LINES
-returns-then-next-gt-MAX_LINES c =
+pub returns-then-late : goal.returns-then-late
+returns-then-late c =
     let a = c.args in
     let r = reading_of a.card (areas a.tracks.now a.needs.now a.words.now a.directory.now a.work.now a.list.now) in
-    rw (late_line r a.line.now (reads_on (goal.at.returns-then-next-gt-MAX_LINES c).Else-not-is_reading) (sym c.read_line.ensures ∙ c.in-IsFrame.is) c.if-next-gt-MAX_LINES.true)
-    (c.misplaced.ensures _ (next_room c.requires.fit _ (lines_left (goal.at.returns-then-next-gt-MAX_LINES c).Else-not-is_reading)))
+    rw (late_line r a.line.now (reads_on (goal.at.returns-then-late c).Else-not-is_reading) (sym c.read_line.ensures ∙ c.in-IsFrame.is) (omega arith))
+    (c.misplaced.ensures _ (next_room c.requires.fit _ (lines_left (goal.at.returns-then-late c).Else-not-is_reading)))
 
 pub frame_in_phase-requires : goal.frame_in_phase-requires
 frame_in_phase-requires c = record {
-  fit = next_fit c.requires.fit _ c.if-next-gt-MAX_LINES.false;
+  fit = next_fit c.requires.fit _ (omega arith);
   in_bounds = c.requires.in_bounds;
 }
 
@@ -49,5 +49,5 @@ pub returns : goal.returns
 returns c =
     let a = c.args in
     let r = reading_of a.card (areas a.tracks.now a.needs.now a.words.now a.directory.now a.work.now a.list.now) in
-    rw (frame_line r a.line.now (reads_on (goal.at.returns c).Else-not-is_reading) (sym c.read_line.ensures ∙ c.in-IsFrame.is) c.if-next-gt-MAX_LINES.false)
+    rw (frame_line r a.line.now (reads_on (goal.at.returns c).Else-not-is_reading) (sym c.read_line.ensures ∙ c.in-IsFrame.is) (omega arith))
     c.frame_in_phase.ensures
