@@ -1,6 +1,6 @@
 -- Digits written from the last to the first, and units written one after another.
 -- Assumes nothing.
-use Prim.Native.Nat.{ℕ, suc, ◌+◌, ◌*◌, ◌/◌, ◌%◌, ◌<◌}
+use Prim.Native.Nat.{ℕ, suc, ◌+◌, ◌*◌, ◌/◌, ◌%◌, ◌≤◌, ◌<◌}
 use mathlib.Core.Path.{◌≡◌, refl, sym, ap, ◌∙◌}
 use mathlib.Core.List.{List, [], ◌∷◌, ◌++◌, append_assoc, append-nil}
 use native.Mathlib.Omega.{arith}
@@ -44,6 +44,14 @@ pub back_next : (area r : List ℕ) (i j b : ℕ) → i ≡ suc j → j < length
 back_next area r i j b n h l e =
     rw (n, take-suc area j 0 h, append_assoc, drop-cons r j 0 l, e)
     (set_at (take j area) (get_or area j 0) (drop (suc j) r) b j (length-take-le j area (omega arith)))
+
+-- ---- two bytes, one after the other
+
+pub two_written : (area : List ℕ) (x y : ℕ) → 2 ≤ length area → set (set area 0 x) 1 y ≡ over area (x ∷ y ∷ [])
+unfolding over
+two_written area x y h =
+    let one : set area 0 x ≡ over area (x ∷ []) = over-next area [] 0 x refl (omega arith) in
+    rw one (over-next area (x ∷ []) 1 y refl (omega arith))
 
 -- ---- units
 

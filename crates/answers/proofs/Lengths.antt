@@ -1,5 +1,7 @@
 -- How long each printed line is.
 -- Assumes nothing.
+use Rattle.rules.specs.Refusals.{PairAnswer, NumberAnswer}
+use Rattle.std.specs.Prelude.{true, false, Ok, Err}
 use Prim.Native.Nat.{ℕ, zero, suc, ◌+◌, ◌*◌, ◌/◌, ◌≤◌}
 use mathlib.Core.Path.{◌≡◌, refl}
 use mathlib.Core.List.{List, [], ◌∷◌}
@@ -7,10 +9,6 @@ use native.Mathlib.Omega.{arith}
 use native.Mathlib.Numerals.{add-one}
 use lib.ListN.{length, length-append}
 use Rattle.rules.specs.declared.Refusal.{Refusal}
-use Rattle.rules.specs.declared.PairAnswer.{PairAnswer}
-use Rattle.rules.specs.declared.PairAnswer.TheVariants as pair
-use Rattle.rules.specs.declared.NumberAnswer.{NumberAnswer}
-use Rattle.rules.specs.declared.NumberAnswer.TheVariants as number
 use Rattle.answers.specs.Printed.{hex_of, decimal_of, built_line, refused_line, pair_line, number_line, units_of, list_line}
 
 pub length_hex : (w x : ℕ) → length (hex_of w x) ≡ w
@@ -22,24 +20,24 @@ pub length_built : (bits : ℕ) → length (built_line bits) ≡ 15
 unfolding built_line
 length_built bits = rw (length-append, length_hex)
 
-pub length-refused : (r : Refusal) → length (refused_line r) ≡ 20
+pub length_refused_line : (r : Refusal) → length (refused_line r) ≡ 20
 unfolding refused_line decimal_of
-length-refused r = rw (length-append, length_hex)
+length_refused_line r = rw (length-append, length_hex)
 
 pub length_pair_most : (a : PairAnswer) → length (pair_line a) ≤ 20
 unfolding pair_line
-length_pair_most pair.Yes = omega arith
-length_pair_most pair.No = omega arith
-length_pair_most (pair.Refused r) = omega (arith, length-refused r)
+length_pair_most (Ok true) = omega arith
+length_pair_most (Ok false) = omega arith
+length_pair_most (Err r) = omega (arith, length_refused_line r)
 
-pub length_number : (x : ℕ) → length (number_line (number.Number x)) ≡ 5
+pub length_number : (x : ℕ) → length (number_line (Ok x)) ≡ 5
 unfolding number_line
 length_number x = rw (length-append, length_hex)
 
 pub length_number_most : (a : NumberAnswer) → length (number_line a) ≤ 20
 unfolding number_line
-length_number_most (number.Number x) = omega (arith, length_number x)
-length_number_most (number.Refused r) = omega (arith, length-refused r)
+length_number_most (Ok x) = omega (arith, length_number x)
+length_number_most (Err r) = omega (arith, length_refused_line r)
 
 pub length_units : (units : List ℕ) → length (units_of units) ≡ 5 * length units
 unfolding units_of

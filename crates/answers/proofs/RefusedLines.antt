@@ -1,5 +1,6 @@
 -- A printed refusal tells which refusal it is: its two digits give the number, its eight digits the place.
 -- Assumes nothing.
+use Rattle.std.specs.Prelude.{Ok, Err}
 use Prim.Native.Nat.{ℕ, zero, suc, ◌+◌, ◌/◌, ◌%◌, ◌^◌, ◌≤◌, ◌<◌}
 use mathlib.Core.Path.{◌≡◌, sym, ap, ◌∙◌}
 use mathlib.Core.List.{List, [], ◌∷◌}
@@ -11,9 +12,7 @@ use lib.Seq.{take_at, get_or_at}
 use borrow.Author.Tests.{lt-ltb, le-ltb}
 use Rattle.rules.specs.declared.Refusal.{Refusal}
 use Rattle.rules.specs.declared.Refusal.TheVariants.{OutOfLimits, NoSuchTrack, EmptyTrack, BadPair, PairOrder, ShortArea, UnsoundTrack, BadArgument, NotWhole, ShortList, NoFrame, FrameOrder}
-use Rattle.rules.specs.declared.Verdict.{Verdict}
-use Rattle.rules.specs.declared.Verdict.TheVariants.{Fine, Refused}
-use Rattle.rules.specs.Refusals.{number_of, place_of}
+use Rattle.rules.specs.Refusals.{number_of, place_of, Verdict}
 use Rattle.rules.specs.Told.{told_refusal}
 use Rattle.rules.proofs.Tellings.{verdict_of, refusal_back}
 use Rattle.answers.specs.Printed.{hex_digit, hex_of, decimal_of, refused_line}
@@ -71,22 +70,22 @@ number_few (FrameOrder line) = omega arith
 
 -- the refusal that a verdict holds
 abbrev held_in : Verdict → Refusal → Refusal
-held_in Fine r = r
-held_in (Refused r) _ = r
+held_in (Ok _) r = r
+held_in (Err r) _ = r
 
 -- what a number and a place are told of, is told back
 refusal_is : (s : Refusal) (v : Verdict) → verdict_of (told_refusal s) ≡ v → s ≡ held_in v s
 refusal_is s v h = ap (λ (x : Verdict). held_in x s) (sym (refusal_back s) ∙ h)
 
 pub refusal_1 : (s : Refusal) → number_of s ≡ 1 → s ≡ OutOfLimits
-refusal_1 s n = refusal_is s (Refused OutOfLimits) (rw n)
+refusal_1 s n = refusal_is s (Err OutOfLimits) (rw n)
 
 pub refusal_8 : (s : Refusal) → number_of s ≡ 8 → s ≡ BadArgument (place_of s)
-refusal_8 s n = refusal_is s (Refused (BadArgument (place_of s))) (rw n)
+refusal_8 s n = refusal_is s (Err (BadArgument (place_of s))) (rw n)
 
 -- two refusals of one number and one place are the same
 refusal_same : (a b : Refusal) → number_of a ≡ number_of b → place_of a ≡ place_of b → a ≡ b
-refusal_same a b n p = refusal_is a (Refused b) (rw (n, p) (refusal_back b))
+refusal_same a b n p = refusal_is a (Err b) (rw (n, p) (refusal_back b))
 
 module _ (a b : Refusal) (h : refused_line a ≡ refused_line b) where
   -- equal printed lines have the same number

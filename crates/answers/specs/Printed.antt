@@ -1,11 +1,7 @@
 -- What is printed for each answer, byte by byte. Digits are lower-case hexadecimal, but a refusal's number is in decimal.
-use Rattle.std.specs.Prelude.{ℕ, zero, suc, ◌+◌, ◌/◌, ◌%◌, cond, List, [], ◌∷◌, ◌++◌, length, ltb}
+use Rattle.std.specs.Prelude.{ℕ, zero, suc, ◌+◌, ◌/◌, ◌%◌, cond, List, [], ◌∷◌, ◌++◌, length, ltb, Ok, Err, true, false}
 use Rattle.rules.specs.declared.Refusal.{Refusal}
-use Rattle.rules.specs.declared.PairAnswer.{PairAnswer}
-use Rattle.rules.specs.declared.PairAnswer.TheVariants as pair
-use Rattle.rules.specs.declared.NumberAnswer.{NumberAnswer}
-use Rattle.rules.specs.declared.NumberAnswer.TheVariants as number
-use Rattle.rules.specs.Refusals.{number_of, place_of}
+use Rattle.rules.specs.Refusals.{number_of, place_of, PairAnswer, NumberAnswer}
 
 -- the digit, 0 to 9 or a to f
 unfoldable pub hex_digit : ℕ → ℕ
@@ -31,14 +27,14 @@ refused_line r =
 
 -- `yes` or `no`
 unfoldable pub pair_line : PairAnswer → List ℕ
-pair_line pair.Yes = 121 ∷ 101 ∷ 115 ∷ 10 ∷ []
-pair_line pair.No = 110 ∷ 111 ∷ 10 ∷ []
-pair_line (pair.Refused r) = refused_line r
+pair_line (Ok true) = 121 ∷ 101 ∷ 115 ∷ 10 ∷ []
+pair_line (Ok false) = 110 ∷ 111 ∷ 10 ∷ []
+pair_line (Err r) = refused_line r
 
 -- four digits
 unfoldable pub number_line : NumberAnswer → List ℕ
-number_line (number.Number x) = hex_of 4 x ++ (10 ∷ [])
-number_line (number.Refused r) = refused_line r
+number_line (Ok x) = hex_of 4 x ++ (10 ∷ [])
+number_line (Err r) = refused_line r
 
 -- the units, four digits each, a space before each
 unfoldable pub units_of : List ℕ → List ℕ

@@ -1,18 +1,26 @@
 // Answers printed into a lent line area: each call fills the start of the area, keeps the rest, and answers how many bytes it wrote.
+// `as` narrows only what a clause bounds: `try_from` would bring in a failure that cannot come.
 #![tactic(auto)]
 
 ghost use Rattle.std.specs.Prelude.{◌+◌, ◌*◌, ◌≤◌, ◌<◌, ◌≡◌, length};
 ghost use Rattle.rules.specs.Ranges.{over};
-ghost use Rattle.answers.specs.Printed.{hex_digit, hex_of, built_line, refused_line, pair_line, number_line, units_of, list_line};
+ghost use Rattle.answers.specs.Printed.{hex_digit, hex_of, decimal_of, built_line, refused_line, pair_line, number_line, units_of, list_line};
 
-use rules::{NumberAnswer, PairAnswer, Refusal};
+use rules::Refusal;
+
+// Digits are written by hand: `Display` and `write!` promise no byte that a proof could use, and `put_refused` promises each of them.
 
 // The byte of a digit.
+#[tactic(auto, unfolding(crate::specs::Printed::hex_digit))]
 fn hex_digit(d: u32) -> u8
     requires { d < 16 }
     ensures { result ≡ hex_digit d }
 {
-    if d < 10 { 48 + d as u8 } else { 87 + d as u8 }
+    if d < 10 {
+        b'0' + d as u8
+    } else {
+        b'a' + (d - 10) as u8
+    }
 }
 
 // Writes w digits of x.
@@ -21,24 +29,19 @@ fn put_hex(out: &mut [u8], w: usize, x: u32)
     ensures { out.new ≡ over out.old (hex_of w x) }
 {
     let mut y = x;
-    let mut i = w;
-    while 0 < i {
-        i -= 1;
+    for i in (0..w).rev() {
         out[i] = hex_digit(y % 16);
         y /= 16;
     }
 }
 
 // Writes a text.
+#[tactic(auto, unfolding(rules::specs::Ranges::over))]
 fn put_text(out: &mut [u8], text: &[u8])
     requires { length text.now ≤ length out.old }
     ensures { out.new ≡ over out.old text.now }
 {
-    let mut i: usize = 0;
-    while i < text.len() {
-        out[i] = text[i];
-        i += 1;
-    }
+    out[..text.len()].copy_from_slice(text);
 }
 
 // Prints `built ` and the bits in eight digits.
@@ -48,8 +51,18 @@ pub fn put_built(out: &mut [u8], bits: u32) -> usize
 {
     put_text(out, b"built ");
     put_hex(&mut out[6..], 8, bits);
-    out[14] = 10;
+    out[14] = b'\n';
     15
+}
+
+// Writes two decimal digits of x.
+#[tactic(auto, using(crate::proofs::Digits::two_written), unfolding(crate::specs::Printed::decimal_of))]
+fn put_decimal(out: &mut [u8], x: u8)
+    requires { 2 ≤ length out.old }
+    ensures { out.new ≡ over out.old (decimal_of x) }
+{
+    out[0] = b'0' + x / 10 % 10;
+    out[1] = b'0' + x % 10;
 }
 
 // Prints `refused `, the number in two decimal digits and the place in eight.
@@ -57,56 +70,45 @@ pub fn put_refused(out: &mut [u8], refusal: Refusal) -> usize
     requires { 20 ≤ length out.old }
     ensures { (result ≡ 20) × (out.new ≡ over out.old (refused_line refusal)) }
 {
-    let n = rules::number(refusal);
-    let text = [
-        b'r',
-        b'e',
-        b'f',
-        b'u',
-        b's',
-        b'e',
-        b'd',
-        b' ',
-        48 + n / 10 % 10,
-        48 + n % 10,
-        b' ',
-    ];
-    put_text(out, &text);
-    put_hex(&mut out[11..], 8, rules::place(refusal));
-    out[19] = 10;
+    put_text(out, b"refused ");
+    put_decimal(&mut out[8..], refusal.number());
+    out[10] = b' ';
+    put_hex(&mut out[11..], 8, refusal.place());
+    out[19] = b'\n';
     20
 }
 
 // Prints `yes`, `no`, or the refusal.
-pub fn put_pair(out: &mut [u8], answer: PairAnswer) -> usize
+#[tactic(auto, using(crate::proofs::Lengths::length_refused_line), unfolding(crate::specs::Printed::pair_line))]
+pub fn put_pair(out: &mut [u8], answer: Result<bool, Refusal>) -> usize
     requires { 20 ≤ length out.old }
     ensures { (result ≡ length (pair_line answer)) × (out.new ≡ over out.old (pair_line answer)) }
 {
     match answer {
-        PairAnswer::Yes => {
+        Ok(true) => {
             put_text(out, b"yes\n");
             4
         }
-        PairAnswer::No => {
+        Ok(false) => {
             put_text(out, b"no\n");
             3
         }
-        PairAnswer::Refused(refusal) => put_refused(out, refusal),
+        Err(refusal) => put_refused(out, refusal),
     }
 }
 
 // Prints the number in four digits, or the refusal.
-pub fn put_number(out: &mut [u8], answer: NumberAnswer) -> usize
+pub fn put_number(out: &mut [u8], answer: Result<u16, Refusal>) -> usize
     requires { 20 ≤ length out.old }
     ensures { (result ≡ length (number_line answer)) × (out.new ≡ over out.old (number_line answer)) }
 {
     match answer {
-        NumberAnswer::Number(x) => {
-            put_hex(out, 4, x as u32);
-            out[4] = 10;
+        Ok(x) => {
+            put_hex(out, 4, u32::from(x));
+            out[4] = b'\n';
             5
         }
-        NumberAnswer::Refused(refusal) => put_refused(out, refusal),
+        Err(refusal) => put_refused(out, refusal),
     }
 }
 
@@ -115,11 +117,9 @@ fn put_units(out: &mut [u8], units: &[u16])
     requires { 5 * length units.now ≤ length out.old }
     ensures { out.new ≡ over out.old (units_of units.now) }
 {
-    let mut i: usize = 0;
-    while i < units.len() {
-        out[5 * i] = 32;
-        put_hex(&mut out[5 * i + 1..], 4, units[i] as u32);
-        i += 1;
+    for (i, &unit) in units.iter().enumerate() {
+        out[5 * i] = b' ';
+        put_hex(&mut out[5 * i + 1..], 4, u32::from(unit));
     }
 }
 
@@ -131,6 +131,6 @@ pub fn put_list(out: &mut [u8], units: &[u16]) -> usize
     put_hex(out, 4, units.len() as u32);
     put_units(&mut out[4..], units);
     let end = 4 + 5 * units.len();
-    out[end] = 10;
+    out[end] = b'\n';
     end + 1
 }

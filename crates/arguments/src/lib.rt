@@ -1,46 +1,52 @@
-// Refusals 9 and 8: what a question asks of its index and of its arguments before it answers.
+// What a question asks of its arguments before it answers, refusal 8, and an index that was judged whole, as its questions are asked of it.
 #![tactic(auto)]
 
-ghost use Rattle.std.specs.Prelude.{◌≡◌};
-ghost use Rattle.arguments.specs.Arguments.{one_unit, two_units, unit_and_track};
+ghost use Rattle.std.specs.Prelude.{◌≡◌, Ok, ltb};
+ghost use Rattle.rules.specs.declared.Refusal.TheVariants.{BadArgument};
+ghost use Rattle.rules.specs.Refusals.{unless};
+ghost use Rattle.rules.specs.Listing.{within};
+ghost use Rattle.rules.specs.Lent.{lent_index};
+ghost use Rattle.whole.specs.Judged.{judged};
+ghost use Rattle.known.specs.Lent.{index_of};
 
-use rules::{Refusal, Verdict};
+use known::WholeIndex;
+use rules::{Index, Refusal};
 
-// Kinds 12 to 16: the fault that the index was judged by, 0 where it is whole, then the unit.
-pub fn one_unit(fault: u32, n: u16, u: u16) -> Verdict
-    ensures { result ≡ one_unit fault n u }
+// The argument of that number is one of n units.
+pub fn unit(n: u16, which: u32, u: u16) -> Result<(), Refusal>
+    ensures { result ≡ unless (within 1 n u) (BadArgument which) }
 {
-    if fault != 0 {
-        return Verdict::Refused(Refusal::NotWhole);
+    if (1..=n).contains(&u) {
+        Ok(())
+    } else {
+        Err(Refusal::BadArgument(which))
     }
-    if u == 0 || n < u {
-        return Verdict::Refused(Refusal::BadArgument(1));
-    }
-    Verdict::Fine
 }
 
-// Kinds 10 and 11: a second unit after that.
-pub fn two_units(fault: u32, n: u16, u: u16, v: u16) -> Verdict
-    ensures { result ≡ two_units fault n u v }
+// The second argument is one of k tracks.
+pub fn track(k: u16, q: u16) -> Result<(), Refusal>
+    ensures { result ≡ unless (ltb q k) (BadArgument 2) }
 {
-    if let Verdict::Refused(refusal) = one_unit(fault, n, u) {
-        return Verdict::Refused(refusal);
-    }
-    if v == 0 || n < v {
-        return Verdict::Refused(Refusal::BadArgument(2));
-    }
-    Verdict::Fine
-}
-
-// Kinds 17 and 18: a track after that.
-pub fn unit_and_track(fault: u32, n: u16, k: u16, u: u16, q: u16) -> Verdict
-    ensures { result ≡ unit_and_track fault n k u q }
-{
-    if let Verdict::Refused(refusal) = one_unit(fault, n, u) {
-        return Verdict::Refused(refusal);
-    }
     if q < k {
-        return Verdict::Fine;
+        Ok(())
+    } else {
+        Err(Refusal::BadArgument(2))
     }
-    Verdict::Refused(Refusal::BadArgument(2))
+}
+
+// An index that was judged whole, as its questions are asked of it.
+pub fn asked<'a>(index: &'a Index<'a>, row: &'a [u32; 66]) -> WholeIndex<'a>
+    requires { Ok row.now ≡ judged (lent_index index.now) }
+    ensures index { index_of result ≡ lent_index index.now }
+    ensures tracks { result.tracks.now ≡ index.now.tracks.now }
+    ensures k { result.vectors.k ≡ index.now.head.k }
+{
+    WholeIndex::new(
+        index.tracks,
+        index.words,
+        index.directory,
+        &index.head.lens,
+        row,
+        usize::from(index.head.k),
+    )
 }

@@ -1,3 +1,2 @@
 -- The laws on the questions of a course file.
 pub mod Answers
-pub mod Asks

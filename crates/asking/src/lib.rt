@@ -1,140 +1,127 @@
 // The questions of a course file, kinds 10 to 18: each is answered from the index that lies in the areas, and its answer printed.
 #![tactic(auto)]
 
-ghost use Rattle.std.specs.Prelude.{◌≤◌, ◌≡◌, length};
+ghost use Rattle.std.specs.Prelude.{◌≤◌, ◌≡◌, length, Ok};
+ghost use Rattle.std.specs.Option.{is_some};
 ghost use Rattle.rules.specs.Ranges.{over};
+ghost use Rattle.rules.specs.Index.{Index};
+ghost use Rattle.known.specs.Lent.{index_of};
+ghost use Rattle.reading.specs.Card as rule;
 ghost use Rattle.reading.specs.Held.{asked, Ready, stages_of};
-ghost use Rattle.asking.specs.Asking.{is_question, pair_asked, list_asked, number_asked, answer_line, counts, QuestionTaken};
+ghost use Rattle.asking.specs.Asking.{is_question, arguments_verdict, printed_for, next_after, answer_line, counts, QuestionTaken};
 
+use known::WholeIndex;
 use reading::{Card, Step};
-use rules::{NumberAnswer, PairAnswer, Refusal};
+use rules::Refusal;
 
-// Kind 11, or kind 10.
-fn pair_answer(
-    card: Card,
-    direct: bool,
-    u: u16,
-    v: u16,
-    tracks: &[u16],
-    words: &[u64],
-    directory: &[u16],
-) -> PairAnswer
-    requires { Ready card tracks.now words.now directory.now }
-    ensures { result ≡ pair_asked (asked card tracks.now words.now directory.now) direct u v }
-{
-    let lens = card.lens;
-    let row = card.row;
-    let k = card.k as usize;
-    if u == 0 || card.n < u {
-        return PairAnswer::Refused(Refusal::BadArgument(1));
-    }
-    if v == 0 || card.n < v {
-        return PairAnswer::Refused(Refusal::BadArgument(2));
-    }
-    let yes = if direct {
-        known::is_step(tracks, words, directory, &lens, &row, k, u, v)
-    } else {
-        known::needs(tracks, words, directory, &lens, &row, k, u, v)
-    };
-    if yes { PairAnswer::Yes } else { PairAnswer::No }
+// A question of units u and v and of a track q, by its kind.
+#[derive(Clone, Copy)]
+enum Question {
+    // 10: u needs v
+    Needs(u16, u16),
+    // 11: v is a direct step of u
+    IsStep(u16, u16),
+    // 12: the units that u needs
+    Needed(u16),
+    // 13: the units that need u
+    Needing(u16),
+    // 14: the direct steps of u
+    Steps(u16),
+    // 15: the units that have u as a direct step
+    StepsUp(u16),
+    // 16: the stage of u
+    Stage(u16),
+    // 17: the unit at low(u, q)
+    UnitLow(u16, u16),
+    // 18: the unit at high(u, q)
+    UnitHigh(u16, u16),
 }
 
-// Kinds 12 to 15, written from the start of the list area.
-fn list_answer(
-    card: Card,
-    kind: u8,
-    u: u16,
-    tracks: &[u16],
-    words: &[u64],
-    directory: &[u16],
-    list: &mut [u16],
-) -> NumberAnswer
-    requires ready { Ready card tracks.now words.now directory.now }
-    requires in_bounds { 1024 ≤ length list.old }
-    ensures { (counts result ≤ 1024) × (answer_line result list.new ≡ list_asked (asked card tracks.now words.now directory.now) kind u) }
-{
-    let lens = card.lens;
-    let row = card.row;
-    let k = card.k as usize;
-    if u == 0 || card.n < u {
-        return NumberAnswer::Refused(Refusal::BadArgument(1));
+impl Question {
+    // The question that a frame asks, if it asks one: kinds 12 to 16 carry 0 second.
+    #[tactic(auto, unfolding(reading::specs::Card::question_frame))]
+    fn read(kind: u8, a: u16, b: u16) -> Option<Question>
+        ensures is_question { is_some result ≡ is_question kind b }
+        ensures next { (r : rule.Reading) → rule.question_frame r kind a b ≡ next_after r result }
+    {
+        match kind {
+            0x12..=0x16 if b != 0 => None,
+            0x10 => Some(Question::Needs(a, b)),
+            0x11 => Some(Question::IsStep(a, b)),
+            0x12 => Some(Question::Needed(a)),
+            0x13 => Some(Question::Needing(a)),
+            0x14 => Some(Question::Steps(a)),
+            0x15 => Some(Question::StepsUp(a)),
+            0x16 => Some(Question::Stage(a)),
+            0x17 => Some(Question::UnitLow(a, b)),
+            0x18 => Some(Question::UnitHigh(a, b)),
+            _ => None,
+        }
     }
-    if kind == 0x12 {
-        return known::needed(tracks, words, directory, &lens, &row, k, u, list, 0);
-    }
-    if kind == 0x13 {
-        return known::needing(tracks, words, directory, &lens, &row, k, u, list, 0);
-    }
-    if kind == 0x14 {
-        return known::steps(tracks, words, directory, &lens, &row, k, u, list, 0);
-    }
-    known::steps_up(tracks, words, directory, &lens, &row, k, u, list, 0)
-}
 
-// Kinds 16 to 18.
-fn number_answer(
-    card: Card,
-    kind: u8,
-    u: u16,
-    q: u16,
-    tracks: &[u16],
-    words: &[u64],
-    directory: &[u16],
-    stages: &[u16],
-) -> NumberAnswer
-    requires ready { Ready card tracks.now words.now directory.now }
-    requires stages_value { stages.now ≡ stages_of (asked card tracks.now words.now directory.now) }
-    ensures { result ≡ number_asked (asked card tracks.now words.now directory.now) kind u q }
-{
-    let lens = card.lens;
-    let row = card.row;
-    let k = card.k as usize;
-    if u == 0 || card.n < u {
-        return NumberAnswer::Refused(Refusal::BadArgument(1));
+    // Its numbers are among n units and k tracks.
+    fn judge(self, n: u16, k: u16) -> Result<(), Refusal>
+        ensures { (x : Index) → x.head.n ≡ n → x.head.k ≡ k → result ≡ arguments_verdict x self }
+    {
+        match self {
+            Question::Needs(u, v) | Question::IsStep(u, v) => {
+                arguments::unit(n, 1, u)?;
+                arguments::unit(n, 2, v)
+            }
+            Question::Needed(u)
+            | Question::Needing(u)
+            | Question::Steps(u)
+            | Question::StepsUp(u)
+            | Question::Stage(u) => arguments::unit(n, 1, u),
+            Question::UnitLow(u, q) | Question::UnitHigh(u, q) => {
+                arguments::unit(n, 1, u)?;
+                arguments::track(k, q)
+            }
+        }
     }
-    if kind == 0x16 {
-        let i = u as usize - 1;
-        let stage = stages[i];
-        return NumberAnswer::Number(stage);
-    }
-    if card.k <= q {
-        return NumberAnswer::Refused(Refusal::BadArgument(2));
-    }
-    if kind == 0x17 {
-        return NumberAnswer::Number(known::unit_low(
-            tracks, words, directory, &lens, &row, k, u, q,
-        ));
-    }
-    NumberAnswer::Number(known::unit_high(tracks, words, directory, &lens, &row, k, u, q))
 }
 
 // Prints the units that a list question counted, or its refusal.
-fn put_answer(answer: NumberAnswer, list: &[u16], out: &mut [u8]) -> usize
+#[tactic(auto, using(answers::proofs::Lengths::length_list, answers::proofs::Lengths::length_refused_line))]
+fn put_answer(answer: Result<u16, Refusal>, list: &[u16], out: &mut [u8]) -> usize
     requires { (counts answer ≤ length list.now) × (counts answer ≤ 1024) × (5125 ≤ length out.old) }
     ensures { (result ≡ length (answer_line answer list.now)) × (out.new ≡ over out.old (answer_line answer list.now)) }
 {
     match answer {
-        NumberAnswer::Number(count) => {
-            let end = count as usize;
-            answers::put_list(out, &list[..end])
-        }
-        NumberAnswer::Refused(refusal) => answers::put_refused(out, refusal),
+        Ok(count) => answers::put_list(out, &list[..usize::from(count)]),
+        Err(refusal) => answers::put_refused(out, refusal),
     }
 }
 
-// Whether a frame is a question: kinds 10 to 18, of which 12 to 16 carry 0 second.
-fn is_question(kind: u8, b: u16) -> bool
-    ensures { result ≡ is_question kind b }
+// Prints the answer to a question whose numbers are units and tracks of the index.
+#[tactic(auto, using(crate::proofs::Answers::granted_steps), unfolding(reading::specs::Card::list_printed, rules::specs::Outcomes::pair_outcome, rules::specs::Outcomes::unit_outcome, rules::specs::Outcomes::bound_outcome))]
+fn answer(
+    question: Question,
+    index: &WholeIndex,
+    stages: &[u16],
+    list: &mut [u16],
+    out: &mut [u8],
+) -> usize
+    requires granted { Ok tt ≡ arguments_verdict (index_of index.now) question }
+    requires stages_value { stages.now ≡ stages_of (index_of index.now) }
+    requires in_bounds { (1024 ≤ length list.old) × (5125 ≤ length out.old) }
+    ensures { (result ≡ length (printed_for (index_of index.now) question)) × (out.new ≡ over out.old (printed_for (index_of index.now) question)) × (result ≤ 5125) }
 {
-    if kind < 0x10 || 0x18 < kind {
-        return false;
+    match question {
+        Question::Needs(u, v) => answers::put_pair(out, Ok(index.needs(u, v))),
+        Question::IsStep(u, v) => answers::put_pair(out, Ok(index.is_step(u, v))),
+        Question::Needed(u) => put_answer(index.needed(u, list, 0), list, out),
+        Question::Needing(u) => put_answer(index.needing(u, list, 0), list, out),
+        Question::Steps(u) => put_answer(index.steps(u, list, 0), list, out),
+        Question::StepsUp(u) => put_answer(index.steps_up(u, list, 0), list, out),
+        Question::Stage(u) => answers::put_number(out, Ok(stages[usize::from(u) - 1])),
+        Question::UnitLow(u, q) => answers::put_number(out, Ok(index.unit_low(u, q))),
+        Question::UnitHigh(u, q) => answers::put_number(out, Ok(index.unit_high(u, q))),
     }
-    if kind < 0x12 || 0x16 < kind {
-        return true;
-    }
-    b == 0
 }
 
+// Takes a frame: prints the answer to its question, or refuses it.
+#[tactic(auto, using(crate::proofs::Answers::refused, answers::proofs::Lengths::length_refused_line))]
 pub fn question_frame(
     card: Card,
     kind: u8,
@@ -152,26 +139,16 @@ pub fn question_frame(
     requires in_bounds { (1024 ≤ length list.old) × (5125 ≤ length out.old) }
     ensures { QuestionTaken (asked card tracks.now words.now directory.now) card kind a b list.old out.old result list.new out.new }
 {
-    if !is_question(kind, b) {
-        return reading::misplaced(card, out);
-    }
-    if kind <= 0x11 {
-        let answer = pair_answer(card, kind == 0x11, a, b, tracks, words, directory);
-        return Step {
-            card,
-            wrote: answers::put_pair(out, answer),
-        };
-    }
-    if kind <= 0x15 {
-        let answer = list_answer(card, kind, a, tracks, words, directory, list);
-        return Step {
-            card,
-            wrote: put_answer(answer, list, out),
-        };
-    }
-    let answer = number_answer(card, kind, a, b, tracks, words, directory, stages);
-    Step {
-        card,
-        wrote: answers::put_number(out, answer),
-    }
+    let Some(question) = Question::read(kind, a, b) else {
+        return card.misplaced(out);
+    };
+    let wrote = match question.judge(card.n, card.k) {
+        Ok(()) => {
+            let k = usize::from(card.k);
+            let index = WholeIndex::new(tracks, words, directory, &card.lens, &card.row, k);
+            answer(question, &index, stages, list, out)
+        }
+        Err(refusal) => answers::put_refused(out, refusal),
+    };
+    Step { card, wrote }
 }

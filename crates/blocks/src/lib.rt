@@ -1,82 +1,67 @@
 // The block into which the input is read: the bytes that wait in it, and those that a read brings behind them.
 #![tactic(auto)]
 
-ghost use Rattle.std.specs.Prelude.{◌≤◌, ◌≡◌, length, take};
-ghost use Rattle.rules.specs.Ranges.{over};
-ghost use Rattle.blocks.specs.Blocks.{part, filled_by, Refilled};
+ghost use Rattle.std.specs.Prelude.{◌-◌, ◌<◌, ◌≤◌, ◌≡◌, true, [], length, take, IfOk, MatchResult};
+ghost use Rattle.std.specs.Io.KnownBytes.{Consumes, IsAtEnd};
+ghost use Rattle.blocks.specs.Blocks.{part, filled_by, behind, Refilled, NotRefilled};
 
 use std::io;
 use std::io::Read;
 
-// Moves the bytes from one place up to another to the front.
-fn keep(bytes: &mut [u8], from: usize, end: usize)
-    requires { (from ≤ end) × (end ≤ length bytes.old) }
-    ensures { bytes.new ≡ over bytes.old (part bytes.old from end) }
-{
-    let mut i: usize = 0;
-    while from + i < end {
-        bytes[i] = bytes[from + i];
-        i += 1;
-    }
-}
-
-// What a read brought: whether it went well, and up to where the bytes are filled.
-#[derive(Clone, Copy)]
-struct Filled {
-    well: bool,
-    end: usize,
-}
-
-// What a read's answer says of the bytes: an error that it failed, else so many came behind those that are there.
-#[tactic(auto, using(crate::proofs::Refills::read_by))]
-fn after_read(got: io::Result<usize>, bytes: &[u8], have: usize) -> Filled
+// Up to where the bytes are filled, by a read's answer: so many came behind those that are there.
+#[tactic(auto, unfolding(crate::specs::Blocks::filled_by))]
+fn after_read(got: io::Result<usize>, bytes: &[u8], have: usize) -> io::Result<usize>
     requires { have ≤ length bytes.now }
     ensures { result ≡ filled_by got have (length bytes.now) }
 {
-    Filled {
-        well: got.is_ok(),
-        end: have + got.unwrap_or(0).min(bytes.len() - have),
-    }
+    got.map(|count| have + count.min(bytes.len() - have))
 }
 
 // One read, behind the bytes that are there.
-fn fill<R: Read>(input: &mut R, bytes: &mut [u8], have: usize) -> Filled
+fn fill<R: Read>(input: &mut R, bytes: &mut [u8], have: usize) -> io::Result<usize>
     requires { have ≤ length bytes.old }
-    ensures { (have ≤ result.end) × (result.end ≤ length bytes.new) × (take have bytes.new ≡ take have bytes.old) }
+    ensures kept { take have bytes.new ≡ take have bytes.old }
+    ensures filled { IfOk result (λ end. (have ≤ end) × (end ≤ length bytes.new)) }
+    ensures taken { MatchResult result (λ end. Consumes (R.remaining input.old) (R.remaining input.new) (part bytes.new have end)) (λ _. Consumes (R.remaining input.old) (R.remaining input.new) []) }
+    ensures at_end { IfOk result (λ end. end ≡ have → have < length bytes.new → IsAtEnd (R.remaining input.new)) }
 {
     let got = input.read(&mut bytes[have..]);
     after_read(got, bytes, have)
 }
 
-// The bytes that wait, whether the file has ended with them, and whether the read went well.
+// The bytes that wait, and whether the file has ended with them; they wait in either case, so `ended` is no `None`.
 #[derive(Clone, Copy)]
 pub struct Waiting {
     pub from: usize,
     pub end: usize,
     pub ended: bool,
-    pub well: bool,
 }
 
-// Reads on where no whole line waits.
-pub fn refill<R: Read>(input: &mut R, bytes: &mut [u8], from: usize, end: usize) -> Waiting
+// Reads on where no whole line waits. Where the read fails, what waits stands at the front.
+pub fn refill<R: Read>(
+    input: &mut R,
+    bytes: &mut [u8],
+    from: usize,
+    end: usize,
+) -> io::Result<Waiting>
     requires { (from ≤ end) × (end ≤ length bytes.old) × (11 ≤ length bytes.old) }
-    ensures { Refilled bytes.old from end result bytes.new }
+    ensures refilled { MatchResult result (λ waiting. Refilled bytes.old from end waiting bytes.new) (λ _. NotRefilled bytes.old from end bytes.new) }
+    ensures taken { MatchResult result (λ waiting. Consumes (R.remaining input.old) (R.remaining input.new) (behind (end - from) waiting bytes.new)) (λ _. Consumes (R.remaining input.old) (R.remaining input.new) []) }
+    ensures at_end { IfOk result (λ waiting. waiting.ended ≡ true → IsAtEnd (R.remaining input.new)) }
 {
     if 11 <= end - from {
-        return Waiting {
+        return Ok(Waiting {
             from,
             end,
             ended: false,
-            well: true,
-        };
+        });
     }
-    keep(bytes, from, end);
+    bytes.copy_within(from..end, 0);
     let have = end - from;
-    let filled = fill(input, bytes, have);
-    Waiting {
+    let filled = fill(input, bytes, have)?;
+    Ok(Waiting {
         from: 0,
-        end: filled.end,
-        ended: filled.end == have,
-        well: filled.well,
-    }
+        end: filled,
+        ended: filled == have,
+    })
 }

@@ -1,4 +1,4 @@
 -- What the proofs of the functions share, and what callers may use.
-pub mod Vectors
+pub mod Covering
 pub mod Reaching
 pub mod Knowing

@@ -8,7 +8,7 @@ use mathlib.Core.Logic.{◌≢◌}
 use native.Mathlib.Omega.{arith}
 use native.Mathlib.Decide.{dec_lt, ℕ_discrete}
 use native.Mathlib.Nat.{zero-div, le_refl}
-use lib.ListN.{length, get_or, get_or-eq_default}
+use lib.ListN.{length, get_or, get_or-eq_default, replicate, length-replicate, get_or-replicate}
 use lib.Pow.{pow_pos}
 use lib.Dec.{eqb}
 use borrow.Author.Tests.{eq-eqb, ne_eqb}
@@ -157,18 +157,18 @@ pub record Filled (c : Listing) (words : List ℕ) (i : ℕ) : Type 0 where
   pub narrow : Words words
   pub each_bit : (x : ℕ) → bit words x ≡ bit1 (some (one_here c x) i)
 
-zero_there : (m j : ℕ) → get_or (table (λ j. 0) m) j 0 ≡ 0
+zero_there : (m j : ℕ) → get_or (replicate {A = ℕ} m 0) j 0 ≡ 0
 zero_there m j = go (dec_lt j m)
   where
-    go : Dec (j < m) → get_or (table (λ j. 0) m) j 0 ≡ 0
-    go (yes l) = get_or-table (λ j. 0) m j l
-    go (no n) = get_or-eq_default (table (λ j. 0) m) 0 (omega (arith, length-table (λ j. 0) m))
+    go : Dec (j < m) → get_or (replicate {A = ℕ} m 0) j 0 ≡ 0
+    go (yes l) = get_or-replicate m j 0 0 l
+    go (no n) = get_or-eq_default (replicate {A = ℕ} m 0) 0 (omega (arith, length-replicate {A = ℕ} m 0))
 
-pub filled_start : (c : Listing) (words : List ℕ) → words ≡ table (λ j. 0) (built_count c) → Filled c words 0
+pub filled_start : (c : Listing) (words : List ℕ) → words ≡ replicate (built_count c) 0 → Filled c words 0
 unfolding some bit digit
 filled_start c words e = record {
   upto = omega arith;
-  long = rw e (length-table (λ j. 0) (built_count c));
+  long = rw e (length-replicate (built_count c) 0);
   narrow = λ j. rw (e, zero_there (built_count c) j) (pow_pos 64);
   each_bit = λ x. rw (e, zero_there (built_count c) (x / 64), zero-div);
 }

@@ -1,30 +1,22 @@
 // An index built from a listing: checked, its rows worked out, then its words and directory filled.
+// `as` narrows only what a clause bounds: `try_from` would bring in a failure that cannot come.
 #![tactic(auto)]
 
 ghost use Rattle.std.specs.Prelude.{ℕ, ◌+◌, ◌*◌, ◌≤◌, ◌<◌, ◌≡◌, length, get_or};
-ghost use Rattle.rules.specs.Ranges.{first, table};
+ghost use Rattle.rules.specs.Ranges.{first_found};
 ghost use Rattle.rules.specs.Listing.{listing};
 ghost use Rattle.rules.specs.Order.{unsound};
 ghost use Rattle.rules.specs.Layout.{offset, word_count};
 ghost use Rattle.rules.specs.Index.{lens_of, built_work, built_words, built_directory, built_count};
-ghost use Rattle.rules.specs.Outcomes.{build_outcome, empty_head};
+ghost use Rattle.rules.specs.Lent.{lent_listing};
+ghost use Rattle.rules.specs.Outcomes.{build_outcome};
 ghost use Rattle.rules.proofs.Accepted.{Accepted};
 ghost use Rattle.layout.specs.Starts.{row_starts};
 ghost use Rattle.build.specs.Ones.{OnesSet, Given, outcome};
 
-use rules::{Built, Head, Refusal, Verdict};
+use rules::{Built, Head, Listing, Refusal};
 
 // ---- the words
-
-fn clear_words(words: &mut [u64])
-    ensures { words.new ≡ table (λ j. 0) (length words.old) }
-{
-    let mut j: usize = 0;
-    while j < words.len() {
-        words[j] = 0;
-        j += 1;
-    }
-}
 
 // Sets the 1 of unit i + 1, of track p, in each of the vectors of p, which start at bit start.
 fn set_ones(
@@ -43,19 +35,18 @@ fn set_ones(
     requires by_index { (q : ℕ) → q < k → get_or work.now (i * k + q) 0 ≤ lens_of lens.now q }
     ensures { OnesSet (lens_of lens.now) k work.now p i k words.old words.new }
 {
-    let own = work[i * k + p] as usize;
+    let own = usize::from(work[i * k + p]);
     let mut off = start;
-    let mut q: usize = 0;
-    while q < k {
+    for q in 0..k {
         if q != p {
-            words::set_bit(words, off + own + work[i * k + q] as usize);
+            words::set_bit(words, off + own + usize::from(work[i * k + q]));
         }
         off += layout::vector_room(lens, p, q);
-        q += 1;
     }
 }
 
-// The words of the index, from the rows of the work area; lens and row are the lengths of the tracks and where their vectors start.
+// The words of the index, from the rows of the work area; lens and row are the lengths of the tracks and where their vectors start, and
+// the needs stand here for the clauses alone.
 fn fill_words(
     words: &mut [u64],
     tracks: &[u16],
@@ -70,12 +61,10 @@ fn fill_words(
     requires words_len { length words.old ≡ built_count (listing (length tracks.now) k tracks.now needs.now) }
     ensures { words.new ≡ built_words (listing (length tracks.now) k tracks.now needs.now) }
 {
-    clear_words(words);
-    let mut i: usize = 0;
-    while i < tracks.len() {
-        let p = tracks[i] as usize;
+    words.fill(0);
+    for (i, &track) in tracks.iter().enumerate() {
+        let p = usize::from(track);
         set_ones(words, work, lens, k, i, p, row[p] as usize);
-        i += 1;
     }
 }
 
@@ -103,11 +92,11 @@ fn fill_index(
 
 // ---- the rows
 
-// Fills the work area, which is as long as the rows; answers the index of the first unit of an unsound track, or the count of units.
-fn fill_work(tracks: &[u16], needs: &[u16], work: &mut [u16], k: usize) -> usize
+// Fills the work area, which is as long as the rows; answers the index of the first unit of an unsound track, if any.
+fn fill_work(tracks: &[u16], needs: &[u16], work: &mut [u16], k: usize) -> Option<usize>
     requires accepted { Accepted (listing (length tracks.now) k tracks.now needs.now) }
     requires work_len { length work.old ≡ length tracks.now * k }
-    ensures value { result ≡ first (unsound (listing (length tracks.now) k tracks.now needs.now)) (length tracks.now) }
+    ensures value { result ≡ first_found (unsound (listing (length tracks.now) k tracks.now needs.now)) (length tracks.now) }
     ensures work_after { work.new ≡ built_work (listing (length tracks.now) k tracks.now needs.now) }
 {
     rows::fill_rows(tracks, needs, work, k);
@@ -116,52 +105,32 @@ fn fill_work(tracks: &[u16], needs: &[u16], work: &mut [u16], k: usize) -> usize
 
 // ---- the build
 
-fn empty_head() -> Head
-    ensures { result ≡ empty_head }
-{
-    Head {
-        lens: [0u16; 32],
-        n: 0,
-        k: 0,
-    }
-}
-
-fn refused(refusal: Refusal) -> Built
-    ensures { result ≡ record { head = empty_head; bits = 0; verdict = Verdict.Refused refusal } }
-{
-    Built {
-        head: empty_head(),
-        bits: 0,
-        verdict: Verdict::Refused(refusal),
-    }
-}
-
 // Checks a listing and builds its index. Refusals 1 to 7; 1 to 6 write nothing, 7 writes the work area alone.
 pub fn build(
-    n: u16,
-    k: u16,
-    tracks: &[u16],
-    needs: &[u16],
+    course: &Listing,
     words: &mut [u64],
     directory: &mut [u16],
     work: &mut [u16],
-) -> Built
-    ensures { outcome result words.new directory.new work.new ≡ build_outcome (listing n k tracks.now needs.now) words.old directory.old work.old }
+) -> Result<Built, Refusal>
+    ensures { outcome result words.new directory.new work.new ≡ build_outcome (lent_listing course.now) words.old directory.old work.old }
 {
-    if let Verdict::Refused(refusal) = listing::check(n, k, tracks, needs) {
-        return refused(refusal);
-    }
+    listing::check(course)?;
+    let Listing {
+        n,
+        k,
+        tracks,
+        needs,
+    } = *course;
     let lens = tracks::track_lengths(tracks);
-    let tracks_count = k as usize;
+    let tracks_count = usize::from(k);
     let row = layout::row_starts(&lens, tracks_count);
     let count = (row[tracks_count] as usize + 63) / 64;
     let entries = tracks.len() * tracks_count;
     if words.len() < count || directory.len() < count || work.len() < entries {
-        return refused(Refusal::ShortArea);
+        return Err(Refusal::ShortArea);
     }
-    let bad = fill_work(tracks, needs, &mut work[..entries], tracks_count);
-    if bad < tracks.len() {
-        return refused(Refusal::UnsoundTrack(bad as u32 + 1));
+    if let Some(bad) = fill_work(tracks, needs, &mut work[..entries], tracks_count) {
+        return Err(Refusal::UnsoundTrack(bad as u32 + 1));
     }
     fill_index(
         &mut words[..count],
@@ -173,9 +142,8 @@ pub fn build(
         &row,
         tracks_count,
     );
-    Built {
+    Ok(Built {
         head: Head { lens, n, k },
-        bits: 2 * n as u32 * (k as u32 - 1),
-        verdict: Verdict::Fine,
-    }
+        bits: 2 * u32::from(n) * (u32::from(k) - 1),
+    })
 }

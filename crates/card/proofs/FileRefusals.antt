@@ -1,6 +1,7 @@
 -- What is printed for a whole course file: nothing before the first refusal or the end of 04, and nothing after a refusal that stops the
 -- reading. Each theorem speaks of a file read so far, line by line.
 -- Assumes nothing.
+use Rattle.std.specs.Prelude.{Ok, Err}
 use Prim.Native.Nat.{ℕ, zero, suc, ◌+◌, ◌≤◌, ◌<◌}
 use mathlib.Core.Path.{◌≡◌, refl, sym, ap, ◌∙◌, subst}
 use mathlib.Core.Bool.{true, false}
@@ -11,13 +12,11 @@ use lib.ListN.{length, get_or, drop}
 use lib.Seq.{get_or-take}
 use Rattle.rules.specs.declared.Refusal.{Refusal}
 use Rattle.rules.specs.declared.Refusal.TheVariants as refusal
-use Rattle.rules.specs.declared.Verdict.{Verdict}
-use Rattle.rules.specs.declared.Verdict.TheVariants.{Fine, Refused}
-use Rattle.rules.specs.Refusals.{number_of, place_of}
+use Rattle.rules.specs.Refusals.{number_of, place_of, Verdict}
 use Rattle.rules.specs.Index.{built_bits}
 use Rattle.rules.proofs.Ranges.{not_both}
-use Rattle.frames.specs.declared.Line.{Line}
-use Rattle.frames.specs.declared.Line.TheVariants.{IsFrame, NoFrame}
+use Rattle.std.specs.Prelude.{Option, Some, None}
+use Rattle.frames.specs.declared.Frame.{Frame}
 use Rattle.frames.specs.Lines.{line_of}
 use Rattle.answers.specs.Printed.{built_line, refused_line}
 use Rattle.frames.proofs.Frames.{line_feed_last}
@@ -102,9 +101,9 @@ module _ (file : List ℕ) where
     pub last_line_11 : reads r.phase ≡ true → ((i : ℕ) → get_or (b ∷ bs) i 0 ≡ 10 → ⊥) → course_prints file ≡ printed ++ refused_line (refusal.NoFrame (r.lines + 1))
     last_line_11 h none = refusal_last (refusal.NoFrame (r.lines + 1)) ((line_11 r (first_line (b ∷ bs)) h).1 (go (line_of (first_line (b ∷ bs))) refl))
       where
-        go : (said : Line) → line_of (first_line (b ∷ bs)) ≡ said → line_of (first_line (b ∷ bs)) ≡ NoFrame
-        go NoFrame e = e
-        go (IsFrame f) e =
+        go : (said : Option Frame) → line_of (first_line (b ∷ bs)) ≡ said → line_of (first_line (b ∷ bs)) ≡ None
+        go None e = e
+        go (Some f) e =
             absurd
             (none 10
             (sym (get_or-take 11 (b ∷ bs) 10 0 (omega arith)) ∙ ap (λ (l : List ℕ). get_or l 10 0) (sym (line_frame (b ∷ bs) e)) ∙ (line_feed_last (first_line (b ∷ bs)) e).0))
@@ -190,8 +189,8 @@ module _ (file : List ℕ) where
     step (ended f e o z) = go (end_verdict r) refl
       where
         go : (v : Verdict) → end_verdict r ≡ v → RefusedFirst ⊎ BuiltSoFar ⊎ OneMore
-        go Fine v = inr (inl (in_phase Asking (counted r), past_line (b ∷ bs), refl, so_far_next (z ∙ ap (loaded (counted r)) v)))
-        go (Refused x) v =
+        go (Ok _) v = inr (inl (in_phase Asking (counted r), past_line (b ∷ bs), refl, so_far_next (z ∙ ap (loaded (counted r)) v)))
+        go (Err x) v =
             refused x (end_place r (stands_in r o.due (reached_stands (so_far_reached file q))) x v) (z ∙ ap (loaded (counted r)) v)
     step (asked f e o z) = absurd (not_both u (ap unfinished o.due))
 

@@ -15,8 +15,7 @@ use borrow.Author.Tests.{ne_eqb}
 use Rattle.rules.proofs.Ranges.{true_or_false}
 use Rattle.rules.specs.declared.Refusal.TheVariants as refusal
 use Rattle.frames.specs.declared.Frame.{Frame}
-use Rattle.frames.specs.declared.Line.{Line}
-use Rattle.frames.specs.declared.Line.TheVariants.{IsFrame, NoFrame}
+use Rattle.std.specs.Prelude.{Option, Some, None}
 use Rattle.frames.specs.Lines.{line_of}
 use Rattle.answers.specs.Printed.{refused_line}
 use Rattle.frames.proofs.Frames.{line_short, line_long, line_feed_last}
@@ -67,7 +66,7 @@ first_line_ends (b ∷ bs) (suc i) l e before =
 -- ---- the first line and the first eleven bytes
 
 -- eleven bytes that are a frame are the first line
-pub piece_frame : (bytes : List ℕ) {f : Frame} → line_of (take 11 bytes) ≡ IsFrame f → first_line bytes ≡ take 11 bytes
+pub piece_frame : (bytes : List ℕ) {f : Frame} → line_of (take 11 bytes) ≡ Some f → first_line bytes ≡ take 11 bytes
 piece_frame bytes h =
     let long = line_long (take 11 bytes) h in
     let feed = line_feed_last (take 11 bytes) h in
@@ -75,29 +74,29 @@ piece_frame bytes h =
     (λ j k e. feed.1 j k (get_or-take 11 bytes j 0 (omega arith) ∙ e))
 
 -- a first line that is a frame is eleven bytes
-pub line_frame : (bytes : List ℕ) {f : Frame} → line_of (first_line bytes) ≡ IsFrame f → first_line bytes ≡ take 11 bytes
+pub line_frame : (bytes : List ℕ) {f : Frame} → line_of (first_line bytes) ≡ Some f → first_line bytes ≡ take 11 bytes
 line_frame bytes h = first_line_taken bytes ∙ rw (line_long (first_line bytes) h)
 
 pub piece_says : (bytes : List ℕ) → line_of (take 11 bytes) ≡ line_of (first_line bytes)
 piece_says bytes = go (line_of (take 11 bytes)) (line_of (first_line bytes)) refl refl
   where
-    go : (a b : Line) → line_of (take 11 bytes) ≡ a → line_of (first_line bytes) ≡ b → line_of (take 11 bytes) ≡ line_of (first_line bytes)
-    go (IsFrame f) b p q = rw (piece_frame bytes p)
-    go NoFrame (IsFrame f) p q = rw (line_frame bytes q)
-    go NoFrame NoFrame p q = p ∙ sym q
+    go : (a b : Option Frame) → line_of (take 11 bytes) ≡ a → line_of (first_line bytes) ≡ b → line_of (take 11 bytes) ≡ line_of (first_line bytes)
+    go (Some f) b p q = rw (piece_frame bytes p)
+    go None (Some f) p q = rw (line_frame bytes q)
+    go None None p q = p ∙ sym q
 
 pub piece_line : (r : Reading) (bytes : List ℕ) → read_line r (take 11 bytes) ≡ read_line r (first_line bytes)
 unfolding read_line
 piece_line r bytes = rw (piece_says bytes)
 
 -- fewer than eleven bytes hold no frame
-pub short_line : (bytes : List ℕ) → length bytes < 11 → line_of (first_line bytes) ≡ NoFrame
+pub short_line : (bytes : List ℕ) → length bytes < 11 → line_of (first_line bytes) ≡ None
 short_line bytes h = line_short (first_line bytes) (λ e. omega (arith, first_line_longest bytes))
 
 -- ---- a reading that has stopped
 
 -- a line that is no frame stops the reading
-pub no_frame_stops : (r : Reading) (line : List ℕ) → line_of line ≡ NoFrame → reads (read_line r line).reading.phase ≡ false
+pub no_frame_stops : (r : Reading) (line : List ℕ) → line_of line ≡ None → reads (read_line r line).reading.phase ≡ false
 unfolding refuse
 no_frame_stops r line h = go (true_or_false (reads r.phase))
   where
@@ -156,7 +155,7 @@ line_prints r b bs =
     rw (turns_enough (length bs) (length (drop (length line) (b ∷ bs))) (read_line r line).reading (drop (length line) (b ∷ bs)) (rest_shorter b bs) (omega arith))
 
 -- of a line that is no frame only its own bytes are printed
-pub no_frame_prints : (r : Reading) (b : ℕ) (bs : List ℕ) → line_of (first_line (b ∷ bs)) ≡ NoFrame
+pub no_frame_prints : (r : Reading) (b : ℕ) (bs : List ℕ) → line_of (first_line (b ∷ bs)) ≡ None
     → prints r (b ∷ bs) ≡ (read_line r (first_line (b ∷ bs))).printed
 no_frame_prints r b bs h =
     let line = first_line (b ∷ bs) in
@@ -171,12 +170,12 @@ pub piece_prints : (r : Reading) (bytes : List ℕ) → 11 ≤ length bytes
 piece_prints r [] h = absurd (omega arith)
 piece_prints r (b ∷ bs) h = go (line_of (first_line (b ∷ bs))) refl
   where
-    go : (line : Line) → line_of (first_line (b ∷ bs)) ≡ line
+    go : (line : Option Frame) → line_of (first_line (b ∷ bs)) ≡ line
         → prints r (b ∷ bs) ≡ (read_line r (take 11 (b ∷ bs))).printed ++ prints (read_line r (take 11 (b ∷ bs))).reading (drop 11 (b ∷ bs))
-    go (IsFrame f) e =
+    go (Some f) e =
         line_prints r b bs
         ∙ rw (line_long (first_line (b ∷ bs)) e, line_frame (b ∷ bs) e)
-    go NoFrame e =
+    go None e =
         no_frame_prints r b bs e
         ∙ rw (
           piece_line r (b ∷ bs),

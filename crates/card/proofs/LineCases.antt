@@ -13,9 +13,8 @@ use lib.Dec.{eqb}
 use borrow.Author.Tests.{eq-eqb, ne_eqb}
 use Rattle.rules.specs.declared.Refusal.{Refusal}
 use Rattle.rules.specs.declared.Refusal.TheVariants as refusal
-use Rattle.rules.specs.declared.Verdict.{Verdict}
 use Rattle.rules.specs.Limits.{max_units, max_tracks}
-use Rattle.rules.specs.Refusals.{◌then◌}
+use Rattle.rules.specs.Refusals.{◌then◌, Verdict}
 use Rattle.rules.specs.Listing.{pairs, within, listing_verdict}
 use Rattle.rules.specs.Order.{sound_verdict}
 use Rattle.rules.specs.Index.{Index}
@@ -25,21 +24,19 @@ use Rattle.rules.proofs.Ranges.{true_or_false, not_both}
 use Rattle.rules.proofs.Verdicts.{and_both, both_and, and_no, within_is, is_within}
 use Rattle.rules.proofs.Checks.{Off, within_fails, and_fails}
 use Rattle.frames.specs.declared.Frame.{Frame}
-use Rattle.frames.specs.declared.Line.{Line}
-use Rattle.frames.specs.declared.Line.TheVariants.{IsFrame, NoFrame}
+use Rattle.std.specs.Prelude.{Option, Some, None}
 use Rattle.frames.specs.Lines.{line_of}
 use Rattle.answers.specs.Printed.{pair_line, number_line}
 use Rattle.reading.specs.declared.Phase.{Phase}
 use Rattle.reading.specs.declared.Phase.TheVariants.{Head, Tracks, Needs, Asking, Stopped}
 use Rattle.reading.specs.Card.{Reading, listing_of, read_index, go_on, refuse, misplaced, head_frame, track_frame, need_frame, loaded, end_frame, answered, list_printed, question_frame, frame_in_phase, counted, reads, read_line, unfinished}
-use Rattle.order.proofs.Turns.{no_frame_line}
-use Rattle.order.proofs.Turns.{head_taken, head_not, track_taken, track-not, need_taken, end_taken, need_not, question_taken, late_line, frame_line}
+use Rattle.order.proofs.Turns.{head_taken, head_not, track_taken, track-not, need_taken, end_taken, need_not, question_taken, late_line, frame_line, no_frame_line}
 
 -- ---- the cases, in 01's words
 
 -- the line is a frame of which P holds
 abbrev pub FrameWith : List ℕ → (Frame → Type 0) → Type 0
-FrameWith line P = (f : Frame) × (line_of line ≡ IsFrame f) × P f
+FrameWith line P = (f : Frame) × (line_of line ≡ Some f) × P f
 
 -- a number of eight digits at most, as a place is printed
 abbrev pub EightDigits : ℕ → Type 0
@@ -182,7 +179,7 @@ module _ (r : Reading) (a b : ℕ) where
       out (inl l) known from to e = omega arith
       out (inr l) known from to e = omega arith
 
-module _ (r : Reading) (line : List ℕ) {f : Frame} (h : reads r.phase ≡ true) (e : line_of line ≡ IsFrame f) where
+module _ (r : Reading) (line : List ℕ) {f : Frame} (h : reads r.phase ≡ true) (e : line_of line ≡ Some f) where
   -- a frame that its phase refuses is refused, on a late line too
   on_any_line : frame_in_phase r.phase (counted r) f ≡ misplaced (counted r) → StopsWith r line (refusal.FrameOrder (r.lines + 1))
   on_any_line q = go (dec_le (r.lines + 1) 65535)
@@ -240,16 +237,16 @@ module _ (r : Reading) (line : List ℕ) {f : Frame} (h : reads r.phase ≡ true
 -- ---- one of six things comes of every line that is read
 
 pub data Comes (r : Reading) (line : List ℕ) : Type 0 where
-  no_frame : line_of line ≡ NoFrame → StopsWith r line (refusal.NoFrame (r.lines + 1)) → Comes r line
-  out_of_place : (f : Frame) → line_of line ≡ IsFrame f → OutOfPlace r f → StopsWith r line (refusal.FrameOrder (r.lines + 1)) → Comes r line
-  past_limits : (f : Frame) → line_of line ≡ IsFrame f → PastLimits r f → StopsWith r line refusal.OutOfLimits → Comes r line
-  taken : (f : Frame) → line_of line ≡ IsFrame f → (r' : Reading) → Taken r f r' → read_line r line ≡ go_on r' → Comes r line
-  ended : (f : Frame) → line_of line ≡ IsFrame f → RightEnd r f → read_line r line ≡ loaded (counted r) (end_verdict r) → Comes r line
-  asked : (f : Frame) → line_of line ≡ IsFrame f → Question r f
+  no_frame : line_of line ≡ None → StopsWith r line (refusal.NoFrame (r.lines + 1)) → Comes r line
+  out_of_place : (f : Frame) → line_of line ≡ Some f → OutOfPlace r f → StopsWith r line (refusal.FrameOrder (r.lines + 1)) → Comes r line
+  past_limits : (f : Frame) → line_of line ≡ Some f → PastLimits r f → StopsWith r line refusal.OutOfLimits → Comes r line
+  taken : (f : Frame) → line_of line ≡ Some f → (r' : Reading) → Taken r f r' → read_line r line ≡ go_on r' → Comes r line
+  ended : (f : Frame) → line_of line ≡ Some f → RightEnd r f → read_line r line ≡ loaded (counted r) (end_verdict r) → Comes r line
+  asked : (f : Frame) → line_of line ≡ Some f → Question r f
       → read_line r line ≡ answered (counted r) (answer_to (read_index r) f.kind f.a f.b) → Comes r line
 
 module _ (r : Reading) (line : List ℕ) (h : reads r.phase ≡ true) where
-  module _ (f : Frame) (e : line_of line ≡ IsFrame f) where
+  module _ (f : Frame) (e : line_of line ≡ Some f) where
     out : OutOfPlace r f → Comes r line
     out o = out_of_place f e o (out_of_place_line r line h e o)
 
@@ -312,13 +309,13 @@ module _ (r : Reading) (line : List ℕ) (h : reads r.phase ≡ true) where
   pub line_comes : Comes r line
   line_comes = go (line_of line) refl
     where
-      in_time? : (f : Frame) → line_of line ≡ IsFrame f → Dec (r.lines + 1 ≤ 65535) → Comes r line
+      in_time? : (f : Frame) → line_of line ≡ Some f → Dec (r.lines + 1 ≤ 65535) → Comes r line
       in_time? f e (yes l) = frame_comes f e l r.phase refl
       in_time? f e (no l) = out f e (late (omega arith))
 
-      go : (said : Line) → line_of line ≡ said → Comes r line
-      go NoFrame e = no_frame e (no_frame_line r line h e)
-      go (IsFrame f) e = in_time? f e (dec_le (r.lines + 1) 65535)
+      go : (said : Option Frame) → line_of line ≡ said → Comes r line
+      go None e = no_frame e (no_frame_line r line h e)
+      go (Some f) e = in_time? f e (dec_le (r.lines + 1) 65535)
 
 pub taken_unfinished : {r : Reading} {f : Frame} {r' : Reading} → Taken r f r' → unfinished r'.phase ≡ true
 taken_unfinished (head p k a b q) = rw q

@@ -11,17 +11,15 @@ use native.Mathlib.Omega.{arith}
 use lib.ListN.{length}
 use Rattle.rules.specs.declared.Refusal.{Refusal}
 use Rattle.rules.specs.declared.Refusal.TheVariants as refusal
-use Rattle.rules.specs.declared.Verdict.{Verdict}
-use Rattle.rules.specs.declared.Verdict.TheVariants.{Fine, Refused}
-use Rattle.rules.specs.Refusals.{number_of, place_of}
+use Rattle.rules.specs.Refusals.{number_of, place_of, Verdict}
 use Rattle.rules.specs.Index.{built_bits}
 use Rattle.rules.proofs.Ranges.{true_or_false, not_both}
 use Rattle.rules.proofs.Checks.{Fails, passes}
 use Rattle.frames.specs.declared.Frame.{Frame}
-use Rattle.frames.specs.declared.Line.TheVariants.{NoFrame}
+use Rattle.std.specs.Prelude.{None, Ok, Err}
 use Rattle.frames.specs.Lines.{line_of}
 use Rattle.answers.specs.Printed.{refused_line}
-use Rattle.answers.proofs.Lengths.{length_built, length-refused}
+use Rattle.answers.proofs.Lengths.{length_built, length_refused_line}
 use Rattle.reading.specs.declared.Phase.{Phase}
 use Rattle.reading.specs.declared.Phase.TheVariants.{Head, Tracks, Needs, Asking, Stopped}
 use Rattle.reading.specs.Card.{Reading, Next, listing_of, read_index, refuse, loaded, answered, counted, reads, read_line, unfinished}
@@ -44,10 +42,10 @@ refuse_printed r a b q = ap (λ (x : Next). x.printed) q
 module _ (r : Reading) (line : List ℕ) (s : Refusal) where
   -- why a line stops a reading with this refusal, and the refusal of that case, which prints the same
   data Cause : Type 0 where
-    cause_11 : line_of line ≡ NoFrame → refused_line (refusal.NoFrame (r.lines + 1)) ≡ refused_line s → Cause
+    cause_11 : line_of line ≡ None → refused_line (refusal.NoFrame (r.lines + 1)) ≡ refused_line s → Cause
     cause_12 : FrameWith line (OutOfPlace r) → refused_line (refusal.FrameOrder (r.lines + 1)) ≡ refused_line s → Cause
     cause_1 : FrameWith line (PastLimits r) → refused_line refusal.OutOfLimits ≡ refused_line s → Cause
-    cause_end : FrameWith line (RightEnd r) → (x : Refusal) → end_verdict r ≡ Refused x → refused_line x ≡ refused_line s → Cause
+    cause_end : FrameWith line (RightEnd r) → (x : Refusal) → end_verdict r ≡ Err x → refused_line x ≡ refused_line s → Cause
 
   cause : Comes r line → StopsWith r line s → Cause
   unfolding loaded
@@ -58,18 +56,18 @@ module _ (r : Reading) (line : List ℕ) (s : Refusal) where
   cause (ended f e o q) h = go (end_verdict r) refl
     where
       go : (v : Verdict) → end_verdict r ≡ v → Cause
-      go Fine v = absurd (not_stopped (counted r) s refl (sym (q ∙ ap (loaded (counted r)) v) ∙ h))
-      go (Refused x) v = cause_end (f, e, o) x v (refuse_printed (counted r) x s (sym (q ∙ ap (loaded (counted r)) v) ∙ h))
+      go (Ok _) v = absurd (not_stopped (counted r) s refl (sym (q ∙ ap (loaded (counted r)) v) ∙ h))
+      go (Err x) v = cause_end (f, e, o) x v (refuse_printed (counted r) x s (sym (q ∙ ap (loaded (counted r)) v) ∙ h))
   cause (asked f e o q) h = absurd (not_stopped (counted r) s (ap reads o.due) (sym q ∙ h))
 
 -- ---- 11, 12, and what never stops a reading
 
 module _ (r : Reading) (line : List ℕ) (h : reads r.phase ≡ true) where
   -- a line is refused 11, at its own number, exactly when it is no frame
-  pub line_11 : StopsWith r line (refusal.NoFrame (r.lines + 1)) ↔ (line_of line ≡ NoFrame)
+  pub line_11 : StopsWith r line (refusal.NoFrame (r.lines + 1)) ↔ (line_of line ≡ None)
   line_11 = (λ q. to (cause r line (refusal.NoFrame (r.lines + 1)) (line_comes r line h) q), λ e. no_frame_line r line h e)
     where
-      to : Cause r line (refusal.NoFrame (r.lines + 1)) → line_of line ≡ NoFrame
+      to : Cause r line (refusal.NoFrame (r.lines + 1)) → line_of line ≡ None
       to (cause_11 e p) = e
       to (cause_12 o p) = absurd (let n = refused_number_tells (refusal.FrameOrder (r.lines + 1)) (refusal.NoFrame (r.lines + 1)) p in omega arith)
       to (cause_1 o p) = absurd (let n = refused_number_tells refusal.OutOfLimits (refusal.NoFrame (r.lines + 1)) p in omega arith)
@@ -107,8 +105,8 @@ module _ (r : Reading) (line : List ℕ) (h : reads r.phase ≡ true) where
 -- the cases in which a line stops a reading
 abbrev pub Stopping : Reading → List ℕ → Type 0
 Stopping r line =
-    (line_of line ≡ NoFrame) ⊎ FrameWith line (OutOfPlace r) ⊎ FrameWith line (PastLimits r)
-    ⊎ (FrameWith line (RightEnd r) × (end_verdict r ≡ Fine → ⊥))
+    (line_of line ≡ None) ⊎ FrameWith line (OutOfPlace r) ⊎ FrameWith line (PastLimits r)
+    ⊎ (FrameWith line (RightEnd r) × (end_verdict r ≡ Ok tt → ⊥))
 
 module _ (r : Reading) (line : List ℕ) (h : reads r.phase ≡ true) (reached : Reached r) where
   past_in_time : {f : Frame} → PastLimits r f → r.lines + 1 ≤ 65535
@@ -136,18 +134,18 @@ module _ (r : Reading) (line : List ℕ) (h : reads r.phase ≡ true) (reached :
 
   -- 2 to 7 come exactly at 04, once its own count and filler are found right, where the listing read meets them
   pub line_2_to_7 : (s : Refusal) → 2 ≤ number_of s → number_of s ≤ 7 → EightDigits (place_of s)
-      → StopsWith r line s ↔ (FrameWith line (RightEnd r) × (end_verdict r ≡ Refused s))
+      → StopsWith r line s ↔ (FrameWith line (RightEnd r) × (end_verdict r ≡ Err s))
   unfolding loaded
   line_2_to_7 s from to place = (
     (λ q. only (cause r line s (line_comes r line h) q)),
     (λ o. end_line r line h o.0.1 (end_in_time o.0.2) o.0.2 ∙ ap (loaded (counted r)) o.1),
   )
     where
-      only : Cause r line s → FrameWith line (RightEnd r) × (end_verdict r ≡ Refused s)
+      only : Cause r line s → FrameWith line (RightEnd r) × (end_verdict r ≡ Err s)
       only (cause_11 e p) = absurd (omega (arith, refused_number_tells (refusal.NoFrame (r.lines + 1)) s p))
       only (cause_12 o p) = absurd (omega (arith, refused_number_tells (refusal.FrameOrder (r.lines + 1)) s p))
       only (cause_1 o p) = absurd (omega (arith, refused_number_tells refusal.OutOfLimits s p))
-      only (cause_end o x v p) = (o, v ∙ ap Refused (refused_line_tells x s p (end_place r (end_due o.2) x v) place))
+      only (cause_end o x v p) = (o, v ∙ ap Err (refused_line_tells x s p (end_place r (end_due o.2) x v) place))
 
   -- 11 and 12 have the line's own number for their place
   pub line_place : (s : Refusal) → 10 < number_of s → EightDigits (place_of s) → StopsWith r line s → place_of s ≡ r.lines + 1
@@ -189,10 +187,10 @@ module _ (r : Reading) (line : List ℕ) (h : reads r.phase ≡ true) (reached :
       to (ended f e o q) z = inr (inr (inr ((f, e, o), λ v. goes (q ∙ ap (loaded (counted r)) v) refl z)))
       to (asked f e o q) z = absurd (goes q (ap reads o.due) z)
 
-      at_end : (v : Verdict) → end_verdict r ≡ v → (v ≡ Fine → ⊥) → read_line r line ≡ loaded (counted r) (end_verdict r)
+      at_end : (v : Verdict) → end_verdict r ≡ v → (v ≡ Ok tt → ⊥) → read_line r line ≡ loaded (counted r) (end_verdict r)
           → reads (read_line r line).reading.phase ≡ false
-      at_end Fine v n q = absurd (n refl)
-      at_end (Refused x) v n q = stops x (q ∙ ap (loaded (counted r)) v)
+      at_end (Ok _) v n q = absurd (n refl)
+      at_end (Err x) v n q = stops x (q ∙ ap (loaded (counted r)) v)
 
       from : Stopping r line → reads (read_line r line).reading.phase ≡ false
       from (inl e) = stops (refusal.NoFrame (r.lines + 1)) ((line_11 r line h).1 e)
@@ -207,7 +205,7 @@ module _ (r : Reading) (line : List ℕ) (h : reads r.phase ≡ true) (reached :
 
   -- before the end of 04 a line builds the index, and prints so, exactly when it is a right 04 of a listing without refusal
   pub line_builds : unfinished r.phase ≡ true
-      → (read_line r line ≡ loaded (counted r) Fine) ↔ (FrameWith line (RightEnd r) × (end_verdict r ≡ Fine))
+      → (read_line r line ≡ loaded (counted r) (Ok tt)) ↔ (FrameWith line (RightEnd r) × (end_verdict r ≡ Ok tt))
   unfolding loaded refuse
   line_builds u = (
     (λ q. to (line_comes r line h) q),
@@ -215,15 +213,15 @@ module _ (r : Reading) (line : List ℕ) (h : reads r.phase ≡ true) (reached :
   )
     where
       -- the reading is past 04
-      past04 : {x : Next} → x ≡ loaded (counted r) Fine → (reads x.reading.phase ≡ true) × (unfinished x.reading.phase ≡ false)
+      past04 : {x : Next} → x ≡ loaded (counted r) (Ok tt) → (reads x.reading.phase ≡ true) × (unfinished x.reading.phase ≡ false)
       past04 q = (ap (λ (y : Next). reads y.reading.phase) q, ap (λ (y : Next). unfinished y.reading.phase) q)
 
-      at_end : FrameWith line (RightEnd r) → (v : Verdict) → end_verdict r ≡ v → loaded (counted r) v ≡ loaded (counted r) Fine
-          → FrameWith line (RightEnd r) × (end_verdict r ≡ Fine)
-      at_end o Fine v q = (o, v)
-      at_end o (Refused x) v q = absurd (not_both (past04 q).0 refl)
+      at_end : FrameWith line (RightEnd r) → (v : Verdict) → end_verdict r ≡ v → loaded (counted r) v ≡ loaded (counted r) (Ok tt)
+          → FrameWith line (RightEnd r) × (end_verdict r ≡ Ok tt)
+      at_end o (Ok _) v q = (o, v)
+      at_end o (Err x) v q = absurd (not_both (past04 q).0 refl)
 
-      to : Comes r line → read_line r line ≡ loaded (counted r) Fine → FrameWith line (RightEnd r) × (end_verdict r ≡ Fine)
+      to : Comes r line → read_line r line ≡ loaded (counted r) (Ok tt) → FrameWith line (RightEnd r) × (end_verdict r ≡ Ok tt)
       to (no_frame e q) z = absurd (not_both (past04 (sym q ∙ z)).0 refl)
       to (out_of_place f e o q) z = absurd (not_both (past04 (sym q ∙ z)).0 refl)
       to (past_limits f e o q) z = absurd (not_both (past04 (sym q ∙ z)).0 refl)
@@ -248,8 +246,8 @@ line_counted r line h = go (line_comes r line h)
     on (need p k n q) = rw q
 
     at_end : (v : Verdict) → read_line r line ≡ loaded (counted r) v → (read_line r line).reading.lines ≡ r.lines + 1
-    at_end Fine q = says q refl
-    at_end (Refused x) q = says q refl
+    at_end (Ok _) q = says q refl
+    at_end (Err x) q = says q refl
 
     go : Comes r line → (read_line r line).reading.lines ≡ r.lines + 1
     go (no_frame e q) = says q refl
@@ -285,8 +283,8 @@ line_silent r line u = go (true_or_false (reads r.phase))
     from (need p k n q) = ap unfinished p
 
     at_end : (v : Verdict) → read_line r line ≡ loaded (counted r) v → ⊥
-    at_end Fine q = not_both (says q) refl
-    at_end (Refused x) q = not_both (says q) refl
+    at_end (Ok _) q = not_both (says q) refl
+    at_end (Err x) q = not_both (says q) refl
 
     by : Comes r line → (unfinished r.phase ≡ true) × ((read_line r line).printed ≡ [])
     by (no_frame e q) = absurd (not_both (says q) refl)
@@ -307,14 +305,14 @@ unfolding loaded refuse
 before_04_stops r line u s p = go (line_comes r line (unfinished-reads r.phase u))
   where
     as_long : {x : Next} → read_line r line ≡ x → length x.printed ≡ 20
-    as_long q = ap (λ (y : Next). length y.printed) (sym q) ∙ ap (λ (l : List ℕ). length l) p ∙ length-refused s
+    as_long q = ap (λ (y : Next). length y.printed) (sym q) ∙ ap (λ (l : List ℕ). length l) p ∙ length_refused_line s
 
     ends : {x : Next} → read_line r line ≡ x → reads x.reading.phase ≡ false → reads (read_line r line).reading.phase ≡ false
     ends q t = ap (λ (y : Next). reads y.reading.phase) q ∙ t
 
     at_end : (v : Verdict) → read_line r line ≡ loaded (counted r) v → reads (read_line r line).reading.phase ≡ false
-    at_end Fine q = absurd (omega (arith, as_long q, length_built (built_bits (listing_of r))))
-    at_end (Refused x) q = ends q refl
+    at_end (Ok _) q = absurd (omega (arith, as_long q, length_built (built_bits (listing_of r))))
+    at_end (Err x) q = ends q refl
 
     go : Comes r line → reads (read_line r line).reading.phase ≡ false
     go (no_frame e q) = ends q refl

@@ -11,7 +11,7 @@ use Rattle.rules.specs.Bits.{digit, bit, word_of, ones_before, place_of_one, pla
 use Rattle.rules.specs.Index.{one_at, built_bit, built_words, built_directory, built_head, built_bits, built_index, vector_of, low_at, high_at, in_range, tracks_fit, lengths_true, areas_reach, spare_clear, directory_true, vectors_true, conditions, first_failing, fault, whole}
 use Rattle.rules.specs.Questions.{kind10_by, kind11_by, units_where}
 use Rattle.rules.specs.Outcomes.{whole_verdict, pair_outcome}
-use Rattle.frames.specs.Lines.{digit_of, digits, spelled, numbers_of, line_of}
+use Rattle.frames.specs.Lines.{digit_of, spelled, four_of, numbers_of, line_of}
 use Rattle.answers.specs.Printed.{hex_digit, hex_of, decimal_of, built_line, refused_line, pair_line, units_of, list_line}
 use Rattle.reading.specs.Card.{refuse, head_frame, track_frame, need_frame, loaded, end_frame, list_printed, question_frame, frame_in_phase, read_line}
 use Rattle.card.specs.Files.{first_line, printed_from, course_prints}
@@ -44,5 +44,5 @@ printed_lines =
 
 -- the course program prints exactly this
 pub printed_case : course_prints given_file ≡ printed_lines
-unfolding sum count greatest smallest first some every keep table track in_track refuse_first counted_needs in_limits bad_units bad_pair units_above out_of_order pairs_verdict listing_verdict leads needs unit_before unsound sound_verdict low vector_bits vector_room offset room_bits word_count meant_bits digit bit word_of ones_before place_of_one place_of_zero one_at built_bit built_words built_directory built_head built_bits built_index vector_of low_at high_at in_range tracks_fit lengths_true areas_reach spare_clear directory_true vectors_true conditions first_failing fault whole kind10_by kind11_by units_where whole_verdict pair_outcome digit_of digits spelled numbers_of line_of hex_digit hex_of decimal_of built_line refused_line pair_line units_of list_line refuse head_frame track_frame need_frame loaded end_frame list_printed question_frame frame_in_phase read_line first_line printed_from course_prints
+unfolding sum count greatest smallest first some every keep table track in_track refuse_first counted_needs in_limits bad_units bad_pair units_above out_of_order pairs_verdict listing_verdict leads needs unit_before unsound sound_verdict low vector_bits vector_room offset room_bits word_count meant_bits digit bit word_of ones_before place_of_one place_of_zero one_at built_bit built_words built_directory built_head built_bits built_index vector_of low_at high_at in_range tracks_fit lengths_true areas_reach spare_clear directory_true vectors_true conditions first_failing fault whole kind10_by kind11_by units_where whole_verdict pair_outcome digit_of spelled four_of numbers_of line_of hex_digit hex_of decimal_of built_line refused_line pair_line units_of list_line refuse head_frame track_frame need_frame loaded end_frame list_printed question_frame frame_in_phase read_line first_line printed_from course_prints
 printed_case = refl

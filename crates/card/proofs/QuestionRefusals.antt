@@ -1,6 +1,7 @@
 -- A question of a course file is refused 8 exactly when one of its arguments is bad; of 9 and 10 none comes, because the index was built by
 -- the program itself and an answer always finds room. What is printed tells a refusal from any answer.
 -- Assumes nothing.
+use Rattle.std.specs.Prelude.{Ok, Err}
 use Prim.Native.Nat.{ℕ, ◌+◌, ◌/◌, ◌%◌, ◌≤◌, ◌<◌}
 use mathlib.Core.Path.{◌≡◌, refl, sym, ap, ◌∙◌}
 use mathlib.Core.Bool.{Bool, true, false}
@@ -13,11 +14,7 @@ use borrow.Author.Tests.{lt-ltb, le-ltb}
 use Rattle.rules.specs.declared.Refusal.{Refusal}
 use Rattle.rules.specs.declared.Refusal.TheVariants.{BadArgument}
 use Rattle.rules.specs.declared.Refusal.TheVariants as refusal
-use Rattle.rules.specs.declared.Verdict.{Verdict}
-use Rattle.rules.specs.declared.Verdict.TheVariants.{Fine, Refused}
-use Rattle.rules.specs.declared.PairAnswer.TheVariants as pair
-use Rattle.rules.specs.declared.NumberAnswer.TheVariants as number
-use Rattle.rules.specs.Refusals.{number_of, place_of, ◌then◌}
+use Rattle.rules.specs.Refusals.{number_of, place_of, ◌then◌, Verdict}
 use Rattle.rules.specs.Told.{told_pair, told_number}
 use Rattle.rules.specs.Index.{Index, built_index, built_head}
 use Rattle.rules.specs.Questions.{kind10, kind11, kind12, kind13, kind14, kind15, kind16, kind17, kind18}
@@ -32,7 +29,7 @@ use Rattle.rules.proofs.Tellings as tellings
 use Rattle.rules.proofs.Refusing.{whole_accepts, pair_8, bound_8, unit_8}
 use Rattle.frames.specs.declared.Frame.{Frame}
 use Rattle.answers.specs.Printed.{hex_digit, hex_of, pair_line, number_line, list_line, refused_line}
-use Rattle.answers.proofs.Lengths.{length-refused, length_number}
+use Rattle.answers.proofs.Lengths.{length_refused_line, length_number}
 use Rattle.reading.specs.declared.Phase.TheVariants.{Asking}
 use Rattle.reading.specs.Card.{Reading, Next, listing_of, read_index, answered, units_printed, list_printed, counted, reads, read_line, unfinished}
 use Rattle.answers.proofs.RefusedLines.{refusal_8, refused_number_tells, refused_line_tells}
@@ -55,14 +52,14 @@ pub data BadQuestion (n k kind a b w : ℕ) : Type 0 where
 
 -- the line of a verdict: its refusal, or an answer that is no printed refusal
 record Shows (v : Verdict) (l : List ℕ) : Type 0 where
-  refused : (s : Refusal) → v ≡ Refused s → l ≡ refused_line s
-  fine : (s : Refusal) → v ≡ Fine → l ≡ refused_line s → ⊥
+  refused : (s : Refusal) → v ≡ Err s → l ≡ refused_line s
+  fine : (s : Refusal) → v ≡ Ok tt → l ≡ refused_line s → ⊥
 
 shows_pair : (v : Verdict) (t : Bool) → Shows v (pair_line (pair_answer v t))
 unfolding pair_line refused_line
 shows_pair v t = record { refused = λ s e. rw e; fine = λ s e q. go t s (rw e at q) }
   where
-    go : (t : Bool) (s : Refusal) → pair_line (pair_answer Fine t) ≡ refused_line s → ⊥
+    go : (t : Bool) (s : Refusal) → pair_line (pair_answer (Ok tt) t) ≡ refused_line s → ⊥
     go true s q = let z : ◌≡◌ {A = ℕ} 121 114 = ap (λ (l : List ℕ). get_or l 0 0) q in omega arith
     go false s q = let z : ◌≡◌ {A = ℕ} 110 114 = ap (λ (l : List ℕ). get_or l 0 0) q in omega arith
 
@@ -70,8 +67,8 @@ shows_number : (v : Verdict) (m : ℕ) → Shows v (number_line (number_answer v
 unfolding number_line
 shows_number v m = record { refused = λ s e. rw e; fine = λ s e q. apart s (rw e at q) }
   where
-    apart : (s : Refusal) → number_line (number_answer Fine m) ≡ refused_line s → ⊥
-    apart s q = omega (arith, ap (λ (l : List ℕ). length l) q, length_number m, length-refused s)
+    apart : (s : Refusal) → number_line (number_answer (Ok tt) m) ≡ refused_line s → ⊥
+    apart s q = omega (arith, ap (λ (l : List ℕ). length l) q, length_number m, length_refused_line s)
 
 -- a digit is no r
 no_r : (d : ℕ) → d < 16 → hex_digit d ≡ 114 → ⊥
@@ -86,21 +83,21 @@ shows_list : (v : Verdict) (units : List ℕ) → Shows v (units_printed v units
 unfolding list_line hex_of refused_line
 shows_list v units = record { refused = λ s e. rw e; fine = λ s e q. apart s (rw e at q) }
   where
-    apart : (s : Refusal) → units_printed Fine units ≡ refused_line s → ⊥
+    apart : (s : Refusal) → units_printed (Ok tt) units ≡ refused_line s → ⊥
     apart s q = no_r (length units / 16 / 16 / 16 % 16) (omega arith) (ap (λ (l : List ℕ). get_or l 0 0) q)
 
 -- ---- of a whole index a question is refused 8 alone
 
 -- the verdict refuses with 8 alone, exactly where P tells its place
 record Eight (v : Verdict) (P : ℕ → Type 0) : Type 0 where
-  eight : (w : ℕ) → (v ≡ Refused (BadArgument w)) ↔ P w
+  eight : (w : ℕ) → (v ≡ Err (BadArgument w)) ↔ P w
   few : (w : ℕ) → P w → w ≤ 2
-  only : (s : Refusal) → v ≡ Refused s → number_of s ≡ 8
+  only : (s : Refusal) → v ≡ Err s → number_of s ≡ 8
 
 module _ {v : Verdict} {l : List ℕ} {P : ℕ → Type 0} (shows : Shows v l) (e : Eight v P) where
-  shown : (s : Refusal) → l ≡ refused_line s → (v' : Verdict) → v ≡ v' → (s' : Refusal) × (v ≡ Refused s') × (refused_line s' ≡ refused_line s)
-  shown s q Fine z = absurd (shows.fine s z q)
-  shown s q (Refused s') z = (s', z, sym (shows.refused s' z) ∙ q)
+  shown : (s : Refusal) → l ≡ refused_line s → (v' : Verdict) → v ≡ v' → (s' : Refusal) × (v ≡ Err s') × (refused_line s' ≡ refused_line s)
+  shown s q (Ok _) z = absurd (shows.fine s z q)
+  shown s q (Err s') z = (s', z, sym (shows.refused s' z) ∙ q)
 
   shown_only : (s : Refusal) → l ≡ refused_line s → number_of s ≡ 8
   shown_only s q = let r = shown s q v refl in sym (refused_number_tells r.0 s r.2) ∙ e.only r.0 r.1
@@ -112,8 +109,8 @@ module _ {v : Verdict} {l : List ℕ} {P : ℕ → Type 0} (shows : Shows v l) (
       to q =
           let r = shown (BadArgument w) q v refl in
           let bad = refusal_8 r.0 (e.only r.0 r.1) in
-          let low = e.few (place_of r.0) ((e.eight (place_of r.0)).0 (r.1 ∙ ap Refused bad)) in
-          (e.eight w).0 (r.1 ∙ ap Refused (refused_line_tells r.0 (BadArgument w) r.2 (omega arith) small))
+          let low = e.few (place_of r.0) ((e.eight (place_of r.0)).0 (r.1 ∙ ap Err bad)) in
+          (e.eight w).0 (r.1 ∙ ap Err (refused_line_tells r.0 (BadArgument w) r.2 (omega arith) small))
 
 first_few : {P Q : Type 0} (w : ℕ) → FirstBad P Q w → w ≤ 2
 first_few w (inl b) = omega (arith, b.0)
@@ -136,20 +133,20 @@ module _ (x : Index) (is_whole : Whole x) (a b : ℕ) where
   abbrev asked_bound : Verdict
   asked_bound = whole_verdict x then unit_verdict x 1 a then track_verdict x 2 b
 
-  whole_fine : whole_verdict x ≡ Fine
-  whole_fine = (tellings.verdict_told (whole_verdict x) Fine).0 ((whole_accepts x).1 is_whole)
+  whole_fine : whole_verdict x ≡ Ok tt
+  whole_fine = (tellings.verdict_told (whole_verdict x) (Ok tt)).0 ((whole_accepts x).1 is_whole)
 
   pair_eight : Eight asked_pair (FirstBad (Off n a) (Off n b))
   unfolding pair_outcome
   pair_eight = record { eight = at; few = first_few; only = λ s z. go s z (ℕ_discrete (number_of s) 8) }
     where
-      at : (w : ℕ) → (asked_pair ≡ Refused (BadArgument w)) ↔ FirstBad (Off n a) (Off n b) w
+      at : (w : ℕ) → (asked_pair ≡ Err (BadArgument w)) ↔ FirstBad (Off n a) (Off n b) w
       at w = (
         (λ z. ((pair_8 x a b true w).0 (ap told_pair ((pair_refused asked_pair true (BadArgument w)).1 z))).1),
-        (λ p. (pair_refused asked_pair true (BadArgument w)).0 ((tellings.pair_told_lem (pair_answer asked_pair true) (pair.Refused (BadArgument w))).0 ((pair_8 x a b true w).1 (is_whole, p)))),
+        (λ p. (pair_refused asked_pair true (BadArgument w)).0 ((tellings.pair_told_lem (pair_answer asked_pair true) (Err (BadArgument w))).0 ((pair_8 x a b true w).1 (is_whole, p)))),
       )
 
-      go : (s : Refusal) → asked_pair ≡ Refused s → Dec (number_of s ≡ 8) → number_of s ≡ 8
+      go : (s : Refusal) → asked_pair ≡ Err s → Dec (number_of s ≡ 8) → number_of s ≡ 8
       go s z (yes e) = e
       go s z (no e) = absurd (then_never (argument_never 1 (within_fails n a) e) (argument_never 2 (within_fails n b) e) (rw whole_fine at z))
 
@@ -157,13 +154,13 @@ module _ (x : Index) (is_whole : Whole x) (a b : ℕ) where
   unfolding unit_outcome
   unit_eight = record { eight = at; few = λ w p. omega (arith, p.0); only = λ s z. go s z (ℕ_discrete (number_of s) 8) }
     where
-      at : (w : ℕ) → (asked_unit ≡ Refused (BadArgument w)) ↔ ((w ≡ 1) × Off n a)
+      at : (w : ℕ) → (asked_unit ≡ Err (BadArgument w)) ↔ ((w ≡ 1) × Off n a)
       at w = (
         (λ z. let r = (unit_8 x a 0 w).0 (ap told_number ((number_refused asked_unit 0 (BadArgument w)).1 z)) in (r.1, r.2)),
-        (λ p. (number_refused asked_unit 0 (BadArgument w)).0 ((tellings.number_told_lem (number_answer asked_unit 0) (number.Refused (BadArgument w))).0 ((unit_8 x a 0 w).1 (is_whole, p.0, p.1)))),
+        (λ p. (number_refused asked_unit 0 (BadArgument w)).0 ((tellings.number_told_lem (number_answer asked_unit 0) (Err (BadArgument w))).0 ((unit_8 x a 0 w).1 (is_whole, p.0, p.1)))),
       )
 
-      go : (s : Refusal) → asked_unit ≡ Refused s → Dec (number_of s ≡ 8) → number_of s ≡ 8
+      go : (s : Refusal) → asked_unit ≡ Err s → Dec (number_of s ≡ 8) → number_of s ≡ 8
       go s z (yes e) = e
       go s z (no e) = absurd (argument_never 1 (within_fails n a) e (rw whole_fine at z))
 
@@ -171,13 +168,13 @@ module _ (x : Index) (is_whole : Whole x) (a b : ℕ) where
   unfolding bound_outcome
   bound_eight = record { eight = at; few = first_few; only = λ s z. go s z (ℕ_discrete (number_of s) 8) }
     where
-      at : (w : ℕ) → (asked_bound ≡ Refused (BadArgument w)) ↔ FirstBad (Off n a) (k ≤ b) w
+      at : (w : ℕ) → (asked_bound ≡ Err (BadArgument w)) ↔ FirstBad (Off n a) (k ≤ b) w
       at w = (
         (λ z. ((bound_8 x a b 0 w).0 (ap told_number ((number_refused asked_bound 0 (BadArgument w)).1 z))).1),
-        (λ p. (number_refused asked_bound 0 (BadArgument w)).0 ((tellings.number_told_lem (number_answer asked_bound 0) (number.Refused (BadArgument w))).0 ((bound_8 x a b 0 w).1 (is_whole, p)))),
+        (λ p. (number_refused asked_bound 0 (BadArgument w)).0 ((tellings.number_told_lem (number_answer asked_bound 0) (Err (BadArgument w))).0 ((bound_8 x a b 0 w).1 (is_whole, p)))),
       )
 
-      go : (s : Refusal) → asked_bound ≡ Refused s → Dec (number_of s ≡ 8) → number_of s ≡ 8
+      go : (s : Refusal) → asked_bound ≡ Err s → Dec (number_of s ≡ 8) → number_of s ≡ 8
       go s z (yes e) = e
       go s z (no e) = absurd (then_never (argument_never 1 (within_fails n a) e) (argument_never 2 (ltb_fails b k) e) (rw whole_fine at z))
 

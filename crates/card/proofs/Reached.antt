@@ -1,5 +1,6 @@
 -- What the lines so far have settled, phase by phase, of every reading that a file can lead to; so which refusals can come at 04.
 -- Assumes nothing.
+use Rattle.std.specs.Prelude.{Ok, Err}
 use Prim.Native.Nat.{ℕ, ◌+◌, ◌%◌, ◌≤◌, ◌<◌}
 use mathlib.Core.Path.{◌≡◌, refl, sym, ap, ◌∙◌, subst}
 use mathlib.Core.Bool.{true, false}
@@ -9,9 +10,7 @@ use native.Mathlib.Omega.{arith}
 use lib.ListN.{length, length-append}
 use Rattle.rules.specs.declared.Refusal.{Refusal}
 use Rattle.rules.specs.declared.Refusal.TheVariants as refusal
-use Rattle.rules.specs.declared.Verdict.{Verdict}
-use Rattle.rules.specs.declared.Verdict.TheVariants.{Fine, Refused}
-use Rattle.rules.specs.Refusals.{number_of, place_of}
+use Rattle.rules.specs.Refusals.{number_of, place_of, Verdict}
 use Rattle.rules.specs.Listing.{Listing, pairs, listing_verdict}
 use Rattle.rules.specs.Told.{told_verdict}
 use Rattle.rules.specs.Order.{sound_verdict}
@@ -55,8 +54,8 @@ pub record NeedsDue (r : Reading) : Type 0 where
 
 -- the listing is accepted and its tracks are sound
 pub record QuestionsDue (r : Reading) : Type 0 where
-  pub accepted : listing_verdict (listing_of r) ≡ Fine
-  pub sound : sound_verdict (listing_of r) ≡ Fine
+  pub accepted : listing_verdict (listing_of r) ≡ Ok tt
+  pub sound : sound_verdict (listing_of r) ≡ Ok tt
   pub lines_few : r.lines ≤ 65535
 
 abbrev pub Stands : Phase → Reading → Type 0
@@ -133,14 +132,14 @@ module _ (r : Reading) (line : List ℕ) where
       d = stands_in r o.due s
 
       go : (v : Verdict) → end_verdict r ≡ v → Stands (read_line r line).reading.phase (read_line r line).reading
-      go Fine v =
+      go (Ok _) v =
           let fine = then_fine (listing_verdict (listing_of r)) (sound_verdict (listing_of r)) v in
-          to_next {x = loaded (counted r) Fine} (q ∙ ap (loaded (counted r)) v) (record {
+          to_next {x = loaded (counted r) (Ok tt)} (q ∙ ap (loaded (counted r)) v) (record {
             accepted = fine.0;
             sound = fine.1;
             lines_few = omega (arith, d.lines_are, d.n_in, d.needs_few);
           })
-      go (Refused x) v = refused_stands x (q ∙ ap (loaded (counted r)) v)
+      go (Err x) v = refused_stands x (q ∙ ap (loaded (counted r)) v)
   comes_stands (asked f e o q) s =
       let d : QuestionsDue r = stands_in r o.due s in
       let d' : QuestionsDue (counted r) = record { accepted = d.accepted; sound = d.sound; lines_few = o.in_time } in
@@ -170,13 +169,13 @@ line_in_time r reached u = stands_in_time r.phase r u (reached_stands reached)
 -- ---- refusals at 04
 
 -- a listing is refused by 1 to 5
-listing_few : (c : Listing) {s : Refusal} → listing_verdict c ≡ Refused s → number_of s ≤ 5
+listing_few : (c : Listing) {s : Refusal} → listing_verdict c ≡ Err s → number_of s ≤ 5
 listing_few c q = rw q at (listing_others c)
 
 -- at 04 neither 6 nor any of 8 to 12 comes
-pub end_never : (r : Reading) (s : Refusal) → (number_of s ≡ 6) ⊎ (7 < number_of s) → end_verdict r ≡ Refused s → ⊥
-end_never r s (inl n) = then_never (λ q. omega (arith, listing_few (listing_of r) q)) (sound_never (listing_of r) (λ e. omega arith))
-end_never r s (inr n) = then_never (λ q. omega (arith, listing_few (listing_of r) q)) (sound_never (listing_of r) (λ e. omega arith))
+pub end_never : (r : Reading) (s : Refusal) → (number_of s ≡ 6) ⊎ (7 < number_of s) → end_verdict r ≡ Err s → ⊥
+end_never r s (inl n) = then_never (λ (q : listing_verdict (listing_of r) ≡ Err s). omega (arith, listing_few (listing_of r) q)) (sound_never (listing_of r) (λ e. omega arith))
+end_never r s (inr n) = then_never (λ (q : listing_verdict (listing_of r) ≡ Err s). omega (arith, listing_few (listing_of r) q)) (sound_never (listing_of r) (λ e. omega arith))
 
 -- a listing read up to 04 is within the limits
 needs_inside : (r : Reading) → NeedsDue r → Outside (listing_of r) → ⊥
@@ -190,19 +189,19 @@ needs_inside r d (inr (inr (inr l))) = l d.tracks_long
 
 module _ (r : Reading) (d : NeedsDue r) where
   -- 1 does not come at 04
-  pub end_not_1 : (s : Refusal) → number_of s ≡ 1 → end_verdict r ≡ Refused s → ⊥
+  pub end_not_1 : (s : Refusal) → number_of s ≡ 1 → end_verdict r ≡ Err s → ⊥
   end_not_1 s n v = go ((then_refused (listing_verdict (listing_of r)) (sound_verdict (listing_of r)) s).0 v)
     where
-      go : (listing_verdict (listing_of r) ≡ Refused s) ⊎ ((listing_verdict (listing_of r) ≡ Fine) × (sound_verdict (listing_of r) ≡ Refused s)) → ⊥
-      go (inl q) = needs_inside r d ((listing_1 (listing_of r)).0 (ap told_verdict (q ∙ ap Refused (refusal_1 s n))))
+      go : (listing_verdict (listing_of r) ≡ Err s) ⊎ ((listing_verdict (listing_of r) ≡ Ok tt) × (sound_verdict (listing_of r) ≡ Err s)) → ⊥
+      go (inl q) = needs_inside r d ((listing_1 (listing_of r)).0 (ap told_verdict (q ∙ ap Err (refusal_1 s n))))
       go (inr q) = sound_never (listing_of r) (λ e. omega arith) q.1
 
   -- a refusal at 04 has a place of eight digits at most
-  pub end_place : (s : Refusal) → end_verdict r ≡ Refused s → EightDigits (place_of s)
+  pub end_place : (s : Refusal) → end_verdict r ≡ Err s → EightDigits (place_of s)
   end_place s v = go s ((then_refused (listing_verdict (listing_of r)) (sound_verdict (listing_of r)) s).0 v) v
     where
-      go : (s : Refusal) → (listing_verdict (listing_of r) ≡ Refused s) ⊎ ((listing_verdict (listing_of r) ≡ Fine) × (sound_verdict (listing_of r) ≡ Refused s))
-          → end_verdict r ≡ Refused s → EightDigits (place_of s)
+      go : (s : Refusal) → (listing_verdict (listing_of r) ≡ Err s) ⊎ ((listing_verdict (listing_of r) ≡ Ok tt) × (sound_verdict (listing_of r) ≡ Err s))
+          → end_verdict r ≡ Err s → EightDigits (place_of s)
       go refusal.OutOfLimits q v = omega arith
       go (refusal.NoSuchTrack u) (inl q) v = omega (arith, ((listing_2 (listing_of r) u).0 (ap told_verdict q)).1.holds, d.n_in)
       go (refusal.NoSuchTrack u) (inr q) v = absurd (sound_never (listing_of r) (λ e. omega arith) q.1)

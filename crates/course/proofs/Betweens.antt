@@ -2,12 +2,14 @@
 -- So turns come to an end.
 -- Assumes nothing.
 use Prim.Native.Nat.{ℕ, suc, ◌+◌, ◌-◌, ◌*◌, ◌≤◌, ◌<◌, zero-le}
-use mathlib.Core.Path.{◌≡◌, refl, sym, ap, ◌∙◌}
+use mathlib.Core.Path.{◌≡◌, refl, sym, ap, subst, ◌∙◌}
 use mathlib.Core.Bool.{Bool, true, false, cond, not, ◌&&◌}
 use mathlib.Core.List.{List, [], ◌++◌}
 use mathlib.Core.Logic.{◌⊎◌, inl, inr}
 use native.Mathlib.Omega.{arith}
-use lib.ListN.{length, drop, length-append, length-drop}
+use lib.ListN.{length, take, drop, length-append, length-drop}
+use lib.Seq.{take_at}
+use Rattle.rules.specs.Ranges.{over}
 use borrow.Author.Tests.{lt-ltb, not-true}
 use Rattle.rules.proofs.Ranges.{true_or_false, not_both}
 use Rattle.rules.proofs.Verdicts.{and_both}
@@ -20,9 +22,12 @@ use Rattle.feeding.proofs.Feeds.{pieces_in}
 use Rattle.feeding.proofs.Lines.{fed_lines, feed_takes_line}
 use Rattle.course.specs.declared.Feeding.{Feeding}
 use Rattle.blocks.specs.declared.Waiting.{Waiting}
-use Rattle.blocks.specs.Blocks.{part, Refilled}
-use Rattle.course.specs.Turns.{Between, between, reading_in, waiting_in, fed_with, FedOn, ReadFailed, Turned, fresh, LedTo, no_turn, turned}
-use Rattle.blocks.proofs.Refills.{part_long, part_rest}
+use Rattle.blocks.specs.Blocks.{part, behind, Refilled, NotRefilled}
+use Rattle.course.specs.Turns.{Between, between, reading_in, waiting_in, fed_with, FedOn, ReadFailed, Turned, Moved, fresh, LedTo, no_turn, turned, came_in, printed_in, ended_in}
+use Rattle.std.specs.Prelude.{Option}
+use Rattle.std.specs.Io.KnownBytes.{Consumes, IsAtEnd, Appends}
+use Rattle.std.proofs.KnownBytes.{Consumes-nil, Consumes-trans, Appends-nil, Appends-trans}
+use Rattle.blocks.proofs.Refills.{part_long, part_rest, came_behind}
 
 -- ---- the bytes that the card takes
 
@@ -50,15 +55,15 @@ module _ (feeding : Feeding) (a : Areas) {bytes bytes' out out' : List ℕ} {a' 
   rest_left =
       sym (part_rest bytes' waiting.from waiting.end given.used) ∙ ap (λ (n : ℕ). drop n waits) took.used_is
 
-  pub turned_fed : length out' ≡ length out → waiting.well ≡ true → (written more : Bool) → more ≡ (given.more && written)
+  pub turned_fed : length out' ≡ length out → (written more : Bool) → more ≡ (given.more && written)
       → Turned (between feeding bytes a out)
       (between (record { card = given.card; from = waiting.from + given.used; end = waiting.end; more = more; failed = not written }) bytes' a' out')
-  turned_fed out_long well written more is =
+  turned_fed out_long written more is =
       record {
         fed = inl (record {
           came = filled.came;
           ended = waiting.ended;
-          came_so = filled.came_so well;
+          came_so = filled.came_so;
           reading_is = rw (sym filled.waits) took.reading_is;
           rest_is = rw (sym filled.waits) rest_left;
           out_is = rw (sym filled.waits) took.out_is;
@@ -68,6 +73,52 @@ module _ (feeding : Feeding) (a : Areas) {bytes bytes' out out' : List ℕ} {a' 
         start_in = omega (arith, used_in _ bytes' waiting.from _ filled.end_in took.used_is, filled.start_in);
         end_in = filled.end_in;
         out_long = out_long;
+      }
+
+  -- and what the input gave and the output holds, where their bytes are known
+  printed_front : length out' ≡ length out → take given.wrote out' ≡ (outcome waits).printed
+  unfolding over
+  printed_front out_long =
+      let printed = (outcome waits).printed in
+      ap (take given.wrote) took.out_is ∙ take_at printed (drop (length printed) out) given.wrote (sym took.wrote_is)
+
+  pub moved_fed : (out_long : length out' ≡ length out) (written more : Bool) (is : more ≡ (given.more && written))
+      → feeding.end ≤ length bytes → {i i' o o' : Option (List ℕ)} → Consumes i i' (behind (feeding.end - feeding.from) waiting bytes')
+      → (waiting.ended ≡ true → IsAtEnd i') → (written ≡ true → Appends o o' (take given.wrote out'))
+      → Moved (between feeding bytes a out)
+      (between (record { card = given.card; from = waiting.from + given.used; end = waiting.end; more = more; failed = not written }) bytes' a' out') i i' o o'
+  unfolding turned_fed
+  moved_fed out_long written more is end_in {i} {i'} {o} {o'} taken at_end gives =
+      record {
+        turn = turned_fed out_long written more is;
+        taken = subst (Consumes i i') (came_behind filled end_in) taken;
+        at_end = at_end;
+        given = λ h. subst (Appends o o') (printed_front out_long ∙ ap (λ (l : List ℕ). (outcome l).printed) filled.waits) (gives (sym (not-not written) ∙ ap not h));
+      }
+
+-- the read failed: the input gave nothing, and nothing is written
+module _ (feeding : Feeding) (a : Areas) {bytes bytes' : List ℕ} (out : List ℕ) (failed : NotRefilled bytes feeding.from feeding.end bytes') (fit : Fit feeding.card a) where
+  abbrev failed_after : Between
+  failed_after = between (record { card = feeding.card; from = 0; end = feeding.end - feeding.from; more = false; failed = true }) bytes' a out
+
+  pub turned_failed : Turned (between feeding bytes a out) failed_after
+  turned_failed =
+      record {
+        fed = inr (record { few = failed.few; reading_is = refl; out_is = refl; fails = refl; ends = refl });
+        fit = fit;
+        start_in = zero-le;
+        end_in = failed.end_in;
+        out_long = refl;
+      }
+
+  pub moved_failed : {i i' o o' : Option (List ℕ)} → Consumes i i' [] → Moved (between feeding bytes a out) failed_after i i' o o'
+  unfolding turned_failed
+  moved_failed taken =
+      record {
+        turn = turned_failed;
+        taken = taken;
+        at_end = λ h. absurd (not_both h refl);
+        given = λ h. absurd (not_both refl h);
       }
 
 -- ---- turns come to an end
@@ -200,4 +251,49 @@ serving_fresh room =
       start_in = zero-le;
       end_in = zero-le;
       on = λ h. refl;
+    }
+
+-- ---- what the input gave and the output holds
+
+-- after some turns: all that came was given, all that was printed was written, and the next turn finds nothing failed
+pub record Carrying (s₀ s : Between) (input₀ input output₀ output : Option (List ℕ)) : Type 0 where
+  pub serving : Serving s₀ s
+  pub taken : Consumes input₀ input (came_in serving.reached)
+  pub at_end : ended_in serving.reached ≡ true → IsAtEnd input
+  pub given : s.feeding.failed ≡ false → Appends output₀ output (printed_in serving.reached)
+  pub fine : s.feeding.more ≡ true → s.feeding.failed ≡ false
+
+not_no : (b : Bool) → not b ≡ true → b ≡ false
+not_no true e = sym e
+not_no false e = refl
+
+-- more is read only where nothing failed
+turn_fine : {s s' : Between} → Turned s s' → s'.feeding.more ≡ true → s'.feeding.failed ≡ false
+turn_fine {s} {s'} turn more = go turn.fed
+  where
+    go : FedOn s s' ⊎ ReadFailed s s' → s'.feeding.failed ≡ false
+    go (inl f) = not_no s'.feeding.failed (and_both (fed_with s f.came f.ended).more (not s'.feeding.failed) (sym f.more_is ∙ more)).1
+    go (inr f) = absurd (not_both more f.ends)
+
+pub carrying_next : {s₀ s s' : Between} {i₀ i i' o₀ o o' : Option (List ℕ)} → Carrying s₀ s i₀ i o₀ o → s.feeding.more ≡ true → Moved s s' i i' o o'
+    → 5145 ≤ length s.out → Carrying s₀ s' i₀ i' o₀ o'
+unfolding came_in printed_in ended_in serving_next
+carrying_next {i₀ = i₀} {i} {i'} {o₀} {o} {o'} c more m room =
+    record {
+      serving = serving_next c.serving more m.turn room;
+      taken = Consumes-trans i₀ i i' _ _ c.taken m.taken;
+      at_end = m.at_end;
+      given = λ h. Appends-trans o₀ o o' _ _ (c.given (c.fine more)) (m.given h);
+      fine = turn_fine m.turn;
+    }
+
+pub carrying_fresh : {bytes out : List ℕ} {a : Areas} (i o : Option (List ℕ)) → Room a → Carrying (between fresh bytes a out) (between fresh bytes a out) i i o o
+unfolding came_in printed_in ended_in serving_fresh
+carrying_fresh i o room =
+    record {
+      serving = serving_fresh room;
+      taken = Consumes-nil i;
+      at_end = λ h. absurd (not_both h refl);
+      given = λ h. Appends-nil o;
+      fine = λ h. refl;
     }

@@ -14,7 +14,9 @@ use Rattle.card.specs.Files.{course_prints}
 use Rattle.feeding.specs.Feeding.{Turns, last, more as one_more}
 use Rattle.feeding.proofs.Blocks.{blocks_print}
 use Rattle.course.specs.Turns.{Between, between, reading_in, waiting_in, fed_with, FedOn, ReadFailed, Turned, fresh, LedTo, no_turn, turned, came_by, printed_by, ended_by, came_in, printed_in, ended_in}
-use Rattle.course.proofs.Betweens.{goes_on}
+use Rattle.std.specs.Prelude.{Option, None, Some, IfSome}
+use Rattle.std.specs.Io.KnownBytes.{Appends}
+use Rattle.course.proofs.Betweens.{goes_on, Carrying}
 
 abbrev Left : ℕ → Between → List ℕ → List ℕ → Type 0
 Left room s = Turns room (reading_in s) (waiting_in s)
@@ -94,3 +96,11 @@ pub served_prints : {bytes out : List ℕ} {a : Areas} {t : Between} (path : Led
     → t.feeding.more ≡ false → t.feeding.failed ≡ false → (unread : List ℕ) → (ended_in path ≡ true → unread ≡ [])
     → printed_in path ≡ course_prints (came_in path ++ unread)
 served_prints path off fine unread end = blocks_print (served_turns path off fine unread end)
+
+-- so where the bytes of the input and of the output are known, what the output has grown by is what the definition prints for the input's bytes
+pub served_writes : {bytes out : List ℕ} {a : Areas} {t : Between} (i₀ i o₀ o : Option (List ℕ)) → Carrying (between fresh bytes a out) t i₀ i o₀ o
+    → t.feeding.more ≡ false → t.feeding.failed ≡ false → IfSome i₀ (λ file. Appends o₀ o (course_prints file))
+served_writes None i o₀ o c off fine = tt
+served_writes (Some file) None o₀ o c off fine = absurd c.taken
+served_writes (Some file) (Some unread) o₀ o c off fine =
+    rw (c.taken, sym (served_prints c.serving.reached off fine unread c.at_end)) (c.given fine)

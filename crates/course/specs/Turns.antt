@@ -1,5 +1,6 @@
 -- What a turn of the program settles: what came, what the card made of it, and which bytes wait; and what turns lead to.
-use Rattle.std.specs.Prelude.{ℕ, ◌-◌, ◌≤◌, ◌<◌, ◌≡◌, Bool, true, false, not, ◌&&◌, List, [], ◌++◌, ◌⊎◌, length}
+use Rattle.std.specs.Prelude.{ℕ, ◌-◌, ◌≤◌, ◌<◌, ◌≡◌, Bool, true, false, not, ◌&&◌, List, [], ◌++◌, ◌⊎◌, Option, length}
+use Rattle.std.specs.Io.KnownBytes.{Consumes, IsAtEnd, Appends}
 use Rattle.std.proofs.Common.{⊎_elim}
 use Rattle.rules.specs.Ranges.{over}
 use Rattle.reading.specs.Card.{Reading}
@@ -88,3 +89,12 @@ printed_in (turned before more turn) = printed_in before ++ printed_by turn
 unfoldable pub ended_in : {s t : Between} → LedTo s t → Bool
 ended_in no_turn = false
 ended_in (turned before more turn) = ended_by turn
+
+-- ---- the input and the output, where their bytes are known
+
+-- in a turn the input gives what came, and has none left where the file had ended; the output grows by what was printed, unless something failed
+pub record Moved (s s' : Between) (input input' output output' : Option (List ℕ)) : Type 0 where
+  pub turn : Turned s s'
+  pub taken : Consumes input input' (came_by turn)
+  pub at_end : ended_by turn ≡ true → IsAtEnd input'
+  pub given : s'.feeding.failed ≡ false → Appends output output' (printed_by turn)

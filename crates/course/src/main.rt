@@ -2,14 +2,17 @@
 // they are read, handed on, and what is printed is written.
 #![tactic(auto)]
 
-ghost use Rattle.std.specs.Prelude.{◌≤◌, ◌≡◌, false, length};
-ghost use Rattle.reading.specs.Held.{Room, lent, entered, left, Fit};
-ghost use Rattle.course.specs.Turns.{between, Turned, fresh, LedTo};
+ghost use Rattle.std.specs.Prelude.{◌≤◌, ◌≡◌, true, false, IfSome, length, take};
+ghost use Rattle.std.specs.Io.KnownBytes.{Appends};
+ghost use Rattle.card.specs.Files.{course_prints};
+ghost use Rattle.reading.specs.Held.{Room, held, AsLong, SameAreas, Fit};
+ghost use Rattle.course.specs.Turns.{between, Turned, Moved, fresh, LedTo};
 
-use reading::Card;
+use reading::{Areas, Card};
 use std::io::{Read, Write};
 
-// A card, the bytes that wait in the block, whether more is to be read, and whether a read or a write has failed.
+// A card, the bytes that wait in the block, whether more is to be read, and whether a read or a write has failed. `failed` is no `Err`:
+// after a failure too the clauses of `turn` and `serve` name the card and the bytes that are left.
 #[derive(Clone, Copy)]
 struct Feeding {
     card: Card,
@@ -22,6 +25,7 @@ struct Feeding {
 // What is printed is written, and nothing of it is held back; whether all of it could be.
 fn print<W: Write>(output: &mut W, out: &[u8], wrote: usize) -> bool
     requires { wrote ≤ length out.now }
+    ensures { result ≡ true → Appends (W.contents output.old) (W.contents output.new) (take wrote out.now) }
 {
     output.write_all(&out[..wrote]).is_ok() && output.flush().is_ok()
 }
@@ -33,43 +37,29 @@ fn turn<R: Read, W: Write>(
     output: &mut W,
     feeding: Feeding,
     bytes: &mut [u8],
-    tracks: &mut [u16],
-    needs: &mut [u16],
-    words: &mut [u64],
-    directory: &mut [u16],
-    work: &mut [u16],
-    list: &mut [u16],
+    areas: &mut Areas,
     out: &mut [u8],
 ) -> Feeding
-    requires fit { Fit feeding.card (lent tracks needs words directory work list) }
+    requires fit { Fit feeding.card (held areas.old) }
     requires from_le_end { (feeding.from ≤ feeding.end) × (feeding.end ≤ length bytes.old) × (11 ≤ length bytes.old) × (5145 ≤ length out.old) }
-    ensures { Turned (between feeding bytes.old (entered tracks needs words directory work list) out.old) (between result bytes.new (left tracks needs words directory work list) out.new) }
+    ensures same { SameAreas areas.old areas.new }
+    ensures lengths { AsLong (held areas.old) (held areas.new) }
+    ensures turned { Turned (between feeding bytes.old (held areas.old) out.old) (between result bytes.new (held areas.new) out.new) }
+    ensures moved { Moved (between feeding bytes.old (held areas.old) out.old) (between result bytes.new (held areas.new) out.new) (R.remaining input.old) (R.remaining input.new) (W.contents output.old) (W.contents output.new) }
 {
-    let waiting = blocks::refill(input, bytes, feeding.from, feeding.end);
-    let from = waiting.from;
-    let end = waiting.end;
     let card = feeding.card;
-    if !waiting.well {
+    let Ok(waiting) = blocks::refill(input, bytes, feeding.from, feeding.end) else {
         return Feeding {
             card,
-            from,
-            end,
+            from: 0,
+            end: feeding.end - feeding.from,
             more: false,
             failed: true,
         };
-    }
-    let fed = feeding::feed(
-        card,
-        &bytes[from..end],
-        waiting.ended,
-        tracks,
-        needs,
-        words,
-        directory,
-        work,
-        list,
-        out,
-    );
+    };
+    let from = waiting.from;
+    let end = waiting.end;
+    let fed = feeding::feed(card, &bytes[from..end], waiting.ended, areas, out);
     let written = print(output, out, fed.wrote);
     Feeding {
         card: fed.card,
@@ -81,57 +71,52 @@ fn turn<R: Read, W: Write>(
 }
 
 // Turn after turn, until nothing more is to be read. Every turn but the last reads a byte or takes a line, and a card stops after 65,536 lines.
+// Where nothing failed, the output has grown by what the definition prints for the input's bytes, as far as a reader and a writer say theirs.
 fn serve<R: Read, W: Write>(
     input: &mut R,
     output: &mut W,
     bytes: &mut [u8],
-    tracks: &mut [u16],
-    needs: &mut [u16],
-    words: &mut [u64],
-    directory: &mut [u16],
-    work: &mut [u16],
-    list: &mut [u16],
+    areas: &mut Areas,
     out: &mut [u8],
 ) -> Feeding
-    requires room { Room (lent tracks needs words directory work list) }
+    requires room { Room (held areas.old) }
     requires in_bounds { (11 ≤ length bytes.old) × (5145 ≤ length out.old) }
+    ensures same { SameAreas areas.old areas.new }
+    ensures lengths { AsLong (held areas.old) (held areas.new) }
     ensures more_value { result.more ≡ false }
-    ensures led_to { LedTo (between fresh bytes.old (entered tracks needs words directory work list) out.old) (between result bytes.new (left tracks needs words directory work list) out.new) }
+    ensures led_to { LedTo (between fresh bytes.old (held areas.old) out.old) (between result bytes.new (held areas.new) out.new) }
+    ensures written { result.failed ≡ false → IfSome (R.remaining input.old) (λ file. Appends (W.contents output.old) (W.contents output.new) (course_prints file)) }
 {
     let mut feeding = Feeding {
-        card: reading::start(),
+        card: Card::start(),
         from: 0,
         end: 0,
         more: true,
         failed: false,
     };
+    // no count of turns is known before the file has ended
     while feeding.more {
-        feeding = turn(
-            input, output, feeding, bytes, tracks, needs, words, directory, work, list, out,
-        );
+        feeding = turn(input, output, feeding, bytes, areas, out);
     }
     feeding
 }
 
 fn main(rt: HostRuntime) {
     let mut bytes = [0u8; 16384];
-    let mut tracks = [0u16; 1024];
-    let mut needs = [0u16; 16384];
-    let mut words = [0u64; 992];
-    let mut directory = [0u16; 992];
-    let mut work = [0u16; 32768];
-    let mut list = [0u16; 1024];
+    let mut areas = Areas {
+        tracks: &mut [0u16; 1024],
+        needs: &mut [0u16; 16384],
+        words: &mut [0u64; 992],
+        directory: &mut [0u16; 992],
+        work: &mut [0u16; 32768],
+        list: &mut [0u16; 1024],
+    };
     let mut out = [0u8; 32768];
     serve(
         &mut rt.stdin(),
         &mut rt.stdout(),
         &mut bytes,
-        &mut tracks,
-        &mut needs,
-        &mut words,
-        &mut directory,
-        &mut work,
-        &mut list,
+        &mut areas,
         &mut out,
     );
 }

@@ -2,3 +2,4 @@
 pub mod Lines
 pub mod Feeds
 pub mod Blocks
+pub mod LineFeeds

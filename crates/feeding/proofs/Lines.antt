@@ -1,5 +1,7 @@
 -- A reading that goes on has counted every line it was fed, and a card that reads takes a line wherever one waits.
 -- Assumes nothing.
+use Rattle.rules.specs.Refusals.{Verdict}
+use Rattle.std.specs.Prelude.{Ok, Err}
 use Prim.Native.Nat.{ℕ, zero, suc, ◌+◌, ◌-◌, ◌*◌, ◌/◌, ◌≤◌, ◌<◌}
 use mathlib.Core.Path.{◌≡◌, refl, sym}
 use mathlib.Core.Bool.{Bool, true, false, cond, not, ◌&&◌}
@@ -15,12 +17,9 @@ use Rattle.rules.specs.Ranges.{first}
 use Rattle.rules.specs.Limits.{max_units, max_tracks, max_needs, max_lines}
 use Rattle.rules.specs.Listing.{pairs, within}
 use Rattle.rules.specs.declared.Refusal.{Refusal}
-use Rattle.rules.specs.declared.Verdict.{Verdict}
-use Rattle.rules.specs.declared.Verdict.TheVariants.{Fine, Refused}
 use Rattle.rules.proofs.Ranges.{true_or_false, not_both, first_met}
 use Rattle.frames.specs.declared.Frame.{Frame}
-use Rattle.frames.specs.declared.Line.{Line}
-use Rattle.frames.specs.declared.Line.TheVariants.{IsFrame, NoFrame}
+use Rattle.std.specs.Prelude.{Option, Some, None}
 use Rattle.frames.specs.Lines.{line_of}
 use Rattle.reading.specs.declared.Phase.{Phase}
 use Rattle.reading.specs.declared.Phase.TheVariants.{Head, Tracks, Needs, Asking, Stopped}
@@ -40,8 +39,8 @@ refuse_lines r refusal = refl
 
 loaded_lines : (r : Reading) (v : Verdict) → (loaded r v).reading.lines ≡ r.lines
 unfolding loaded
-loaded_lines r Fine = refl
-loaded_lines r (Refused refusal) = refuse_lines r refusal
+loaded_lines r (Ok _) = refl
+loaded_lines r (Err refusal) = refuse_lines r refusal
 
 question_lines : (r : Reading) (kind a b : ℕ) → (question_frame r kind a b).reading.lines ≡ r.lines
 unfolding question_frame refuse
@@ -84,10 +83,10 @@ frame_lines Stopped r f = refl
 
 -- ---- a line that is read is counted
 
-after_lines : (r : Reading) (line : Line) → (after_line r line).reading.lines ≡ r.lines
+after_lines : (r : Reading) (line : Option Frame) → (after_line r line).reading.lines ≡ r.lines
 unfolding refuse
-after_lines r NoFrame = refl
-after_lines r (IsFrame f) = either_lines (ltb max_lines r.lines) _ _ refl (frame_lines r.phase r f)
+after_lines r None = refl
+after_lines r (Some f) = either_lines (ltb max_lines r.lines) _ _ refl (frame_lines r.phase r f)
 
 line_counted : (r : Reading) (line : List ℕ) → reads r.phase ≡ true → (read_line r line).reading.lines ≡ r.lines + 1
 unfolding read_line

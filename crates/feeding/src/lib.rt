@@ -3,12 +3,13 @@
 #![tactic(auto)]
 
 ghost use Rattle.std.specs.Prelude.{◌≤◌, ◌≡◌, length};
-ghost use Rattle.reading.specs.Held.{lent, entered, left, reading_of, Fit};
+ghost use Rattle.reading.specs.Held.{held, reading_of, AsLong, SameAreas, Fit};
 ghost use Rattle.feeding.specs.Feeding.{has_line_feed, is_last, FedTo};
 
-use reading::Card;
+use reading::{Areas, Card};
 
-// A card after the bytes that waited: how many of them it took, how many were printed, and whether more is to be read.
+// A card after the bytes that waited: how many of them it took, how many were printed, and whether more is to be read;
+// the others are there in either case, so `more` is no `None`.
 #[derive(Clone, Copy)]
 pub struct Fed {
     pub card: Card,
@@ -21,13 +22,7 @@ pub struct Fed {
 fn has_line_feed(bytes: &[u8]) -> bool
     ensures { result ≡ has_line_feed bytes.now }
 {
-    let mut i: usize = 0;
-    let mut found = false;
-    while i < bytes.len() {
-        found = found || bytes[i] == b'\n';
-        i += 1;
-    }
-    found
+    bytes.contains(&b'\n')
 }
 
 // Whether the bytes that are left are all of their line: fewer than a frame has, at the end of the file or with a line feed among them.
@@ -39,35 +34,16 @@ fn is_last(rest: &[u8], ended: bool) -> bool
 }
 
 // Reads the whole lines of the bytes that wait, and a last line that is no frame as soon as it is known to be one.
-pub fn feed(
-    card: Card,
-    bytes: &[u8],
-    ended: bool,
-    tracks: &mut [u16],
-    needs: &mut [u16],
-    words: &mut [u64],
-    directory: &mut [u16],
-    work: &mut [u16],
-    list: &mut [u16],
-    out: &mut [u8],
-) -> Fed
-    requires fit { Fit card (lent tracks needs words directory work list) }
+pub fn feed(card: Card, bytes: &[u8], ended: bool, areas: &mut Areas, out: &mut [u8]) -> Fed
+    requires fit { Fit card (held areas.old) }
     requires in_bounds { 20 ≤ length out.old }
-    ensures { FedTo (reading_of card (entered tracks needs words directory work list)) bytes.now ended out.old result (left tracks needs words directory work list) out.new }
+    ensures same { SameAreas areas.old areas.new }
+    ensures lengths { AsLong (held areas.old) (held areas.new) }
+    ensures fed { FedTo (reading_of card (held areas.old)) bytes.now ended out.old result (held areas.new) out.new }
 {
     // the last line's refusal always finds its 20 bytes
     let room = out.len() - 20;
-    let run = card::run(
-        card,
-        bytes,
-        tracks,
-        needs,
-        words,
-        directory,
-        work,
-        list,
-        &mut out[..room],
-    );
+    let run = card::run(card, bytes, areas, &mut out[..room]);
     let used = run.used;
     let wrote = run.wrote;
     let next = run.card;
@@ -76,7 +52,7 @@ pub fn feed(
             card: next,
             used,
             wrote,
-            more: reading::is_reading(next),
+            more: next.is_reading(),
         };
     }
     let last = card::finish(next, &bytes[used..], &mut out[wrote..]);

@@ -1,5 +1,6 @@
 -- The end of a listing, 04: over areas with room for any course a build refuses what the listing is refused for, and else leaves the index.
 -- Assumes nothing.
+use Rattle.std.specs.Prelude.{Ok, Err}
 use Prim.Native.Nat.{ℕ, ◌*◌, ◌≤◌}
 use mathlib.Core.Path.{◌≡◌, refl, sym, ap, ◌∙◌}
 use mathlib.Core.Bool.{◌&&◌}
@@ -10,11 +11,9 @@ use lib.ListN.{length, take}
 use lib.Seq.{take_at}
 use lib.Dec.{eqb}
 use borrow.Author.Tests.{eq-eqb, eqb-true}
-use Rattle.rules.specs.declared.Built.{Built}
+use Rattle.rules.specs.Outcomes.{BuildAnswer}
 use Rattle.rules.specs.declared.Refusal.{Refusal}
-use Rattle.rules.specs.declared.Verdict.{Verdict}
-use Rattle.rules.specs.declared.Verdict.TheVariants.{Fine, Refused}
-use Rattle.rules.specs.Refusals.{◌then◌}
+use Rattle.rules.specs.Refusals.{◌then◌, Verdict}
 use Rattle.rules.specs.Ranges.{table, over}
 use Rattle.rules.specs.Listing.{Listing, size, pairs_verdict, listing_verdict}
 use Rattle.rules.specs.Order.{sound_verdict}
@@ -26,7 +25,6 @@ use Rattle.rules.proofs.Accepted.{listing_fine}
 use Rattle.rules.proofs.Builts.{length_words, length_directory}
 use Rattle.stages.specs.Stages.{stage_table}
 use Rattle.stages.proofs.Lasts.{length_stages}
-use Rattle.build.specs.Ones.{outcome}
 use Rattle.build.proofs.Ones.{rows-count}
 use Rattle.build.proofs.Outcomes.{room_enough}
 use Rattle.answers.specs.Printed.{built_line}
@@ -39,14 +37,14 @@ use Rattle.reading.proofs.Taking.{needs_held, took}
 use Rattle.reading.proofs.Phases.{words_few}
 
 -- what an accepted build says of its listing
-module _ (c : Listing) (words directory work : List ℕ) {built : Built} {words' directory' work' : List ℕ}
-    (done : outcome built words' directory' work' ≡ build_outcome c words directory work) where
+module _ (c : Listing) (words directory work : List ℕ) {built : BuildAnswer} {words' directory' work' : List ℕ}
+    (done : record { answer = built; words = words'; directory = directory'; work = work' } ≡ build_outcome c words directory work) where
   pub outcome_verdict : built.verdict ≡ build_verdict c words directory work
   unfolding build_outcome
   outcome_verdict = ap (λ (o : BuildOutcome). o.answer.verdict) done
 
   -- so its pairs are in order over as many units as there are tracks
-  pub build_pairs : {units : ℕ} → built.verdict ≡ Fine → length c.tracks ≡ units → (pairs_verdict units c.needs ≡ Fine) × (units ≤ 1024)
+  pub build_pairs : {units : ℕ} → built.verdict ≡ Ok tt → length c.tracks ≡ units → (pairs_verdict units c.needs ≡ Ok tt) × (units ≤ 1024)
   unfolding build_verdict filled_verdict
   build_pairs fine e =
       let v = then_fine (filled_verdict c words directory work) (sound_verdict c) (sym outcome_verdict ∙ fine) in
@@ -94,7 +92,7 @@ module _ {card : Card} {tracks needs words directory work list : List ℕ} (fit 
 
   -- ---- the verdict of the build
 
-  room_there : listing_verdict course ≡ Fine → room_verdict course words directory work ≡ Fine
+  room_there : listing_verdict course ≡ Ok tt → room_verdict course words directory work ≡ Ok tt
   room_there h =
       let a = listing_fine course h in
       let few = words_few a in
@@ -107,8 +105,8 @@ module _ {card : Card} {tracks needs words directory work list : List ℕ} (fit 
     where
       go : (v : Verdict) → listing_verdict course ≡ v
           → ((listing_verdict course then room_verdict course words directory work) then sound_verdict course) ≡ (listing_verdict course then sound_verdict course)
-      go Fine e = rw (e, room_there e)
-      go (Refused r) e = rw e
+      go (Ok _) e = rw (e, room_there e)
+      go (Err r) e = rw e
 
   end_loads : (count filler : ℕ) → count ≡ card.pairs → filler ≡ 0
       → end_frame (reading_of card held) count filler ≡ loaded (reading_of card held) (build_verdict course words directory work)
@@ -116,10 +114,10 @@ module _ {card : Card} {tracks needs words directory work list : List ℕ} (fit 
   end_loads count filler p q = rw (needs_held fit.room, eq-eqb count card.pairs p, q, build_verdict_lem)
 
   -- ---- after the build
-  module _ {built : Built} {words' directory' work' : List ℕ}
-      (done : outcome built words' directory' work' ≡ build_outcome course words directory work)
+  module _ {built : BuildAnswer} {words' directory' work' : List ℕ}
+      (done : record { answer = built; words = words'; directory = directory'; work = work' } ≡ build_outcome course words directory work)
       (count filler : ℕ) (right : count ≡ card.pairs) (empty : filler ≡ 0) where
-    pub end_refused : {refusal : Refusal} → built.verdict ≡ Refused refusal
+    pub end_refused : {refusal : Refusal} → built.verdict ≡ Err refusal
         → end_frame (reading_of card held) count filler ≡ refuse (reading_of card held) refusal
     unfolding loaded
     end_refused h = end_loads count filler right empty ∙ rw (sym (outcome_verdict course words directory work done) ∙ h)
@@ -127,14 +125,14 @@ module _ {card : Card} {tracks needs words directory work list : List ℕ} (fit 
     -- the stages stand over the start of the work area
     module _ {work'' : List ℕ} (long : length words' ≡ length words) (long' : length directory' ≡ length directory) (long'' : length work'' ≡ length work)
         (staged : work'' ≡ over work' (stage_table (take (2 * card.pairs) needs) card.units))
-        (e : card.phase ≡ Needs) (fine : built.verdict ≡ Fine) where
+        (e : card.phase ≡ Needs) (fine : built.verdict ≡ Ok tt) where
       abbrev holding : Areas
       holding = areas tracks needs words' directory' work'' list
 
-      built_fine : build_verdict course words directory work ≡ Fine
+      built_fine : build_verdict course words directory work ≡ Ok tt
       built_fine = sym (outcome_verdict course words directory work done) ∙ fine
 
-      pub listing_accepted : listing_verdict course ≡ Fine
+      pub listing_accepted : listing_verdict course ≡ Ok tt
       listing_accepted = (then_fine (listing_verdict course) (sound_verdict course) (sym build_verdict_lem ∙ built_fine)).0
 
       built_words_lem : words' ≡ over words (built_words course)

@@ -8,7 +8,7 @@ ghost use Rattle.reading.specs.Held.{loaded_card};
 ghost use Rattle.filing.specs.Filing.{NeedTaken, EndTaken};
 
 use reading::{Card, Phase, Step};
-use rules::{Refusal, Verdict};
+use rules::{Listing, Refusal};
 
 // 03 (u, v)
 pub fn need_frame(card: Card, u: u16, v: u16, needs: &mut [u16], out: &mut [u8]) -> Step
@@ -17,14 +17,15 @@ pub fn need_frame(card: Card, u: u16, v: u16, needs: &mut [u16], out: &mut [u8])
 {
     let pairs = card.pairs;
     if pairs == rules::MAX_NEEDS {
-        return reading::refuse(card, Refusal::OutOfLimits, out);
+        return card.refuse(Refusal::OutOfLimits, out);
     }
     needs[2 * pairs] = u;
     needs[2 * pairs + 1] = v;
-    let mut next = card;
-    next.pairs = pairs + 1;
     Step {
-        card: next,
+        card: Card {
+            pairs: pairs + 1,
+            ..card
+        },
         wrote: 0,
     }
 }
@@ -34,14 +35,19 @@ fn load(card: Card, lens: [u16; 32], bits: u32, out: &mut [u8]) -> Step
     requires { (card.k ≤ 32) × (20 ≤ length out.old) }
     ensures { (result ≡ record { card = loaded_card card lens; wrote = 15 }) × (out.new ≡ over out.old (built_line bits)) }
 {
-    let k = card.k as usize;
+    let k = usize::from(card.k);
     let row = layout::row_starts(&lens, k);
     let wrote = answers::put_built(out, bits);
-    let mut next = reading::in_phase(card, Phase::Asking);
-    next.count = (layout::entry(row[k]) + 63) / 64;
-    next.lens = lens;
-    next.row = row;
-    Step { card: next, wrote }
+    Step {
+        card: Card {
+            phase: Phase::Asking,
+            count: (row[k] as usize + 63) / 64,
+            lens,
+            row,
+            ..card
+        },
+        wrote,
+    }
 }
 
 // 04 (count of 03 frames, 0)
@@ -61,23 +67,19 @@ pub fn end_frame(
 {
     let units = card.units;
     let numbers = 2 * card.pairs;
-    if count as usize != card.pairs || filler != 0 {
-        return reading::misplaced(card, out);
+    if usize::from(count) != card.pairs || filler != 0 {
+        return card.misplaced(out);
     }
-    let built = build::build(
-        card.n,
-        card.k,
-        &tracks[..units],
-        &needs[..numbers],
-        words,
-        directory,
-        work,
-    );
-    let verdict = built.verdict;
-    if let Verdict::Refused(refusal) = verdict {
-        return reading::refuse(card, refusal, out);
-    }
-    let lens = built.head.lens;
-    stages::fill_stages(&needs[..numbers], &mut work[..units]);
-    load(card, lens, built.bits, out)
+    let course = Listing {
+        n: card.n,
+        k: card.k,
+        tracks: &tracks[..units],
+        needs: &needs[..numbers],
+    };
+    let built = match build::build(&course, words, directory, work) {
+        Ok(built) => built,
+        Err(refusal) => return card.refuse(refusal, out),
+    };
+    stages::fill_stages(course.needs, &mut work[..units]);
+    load(card, built.head.lens, built.bits, out)
 }

@@ -1,3 +1,3 @@
--- What the proofs of the functions share, and what callers may use.
+-- What callers may use.
 pub mod Frames
 pub mod FrameLines

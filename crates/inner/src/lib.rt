@@ -1,4 +1,5 @@
-// The questions of an index that is known to be whole, exported for the benchmark alone; no header of the library declares them.
+// The questions of an index that is known to be whole, exported for the benchmark alone; no header of the library declares them, but
+// bench/inner.h does, so their parameters stay as C has them.
 #![tactic(auto)]
 
 ghost use Rattle.std.specs.Prelude.{◌≤◌, ◌≡◌};
@@ -9,6 +10,7 @@ ghost use Rattle.layout.specs.Starts.{row_starts};
 ghost use Rattle.known.specs.Asked.{parts, Sure, UnitOf};
 ghost use Rattle.rules.specs.Told.{told_list};
 
+use known::WholeIndex;
 use rules::NumberTold;
 
 // Fills the table by which a vector is found.
@@ -37,7 +39,8 @@ pub extern "C" fn ngolishepa_inner_needs(
     requires unit_of_2 { UnitOf tracks.now v }
     ensures { result ≡ kind10 (parts lens.now k tracks.now words.now directory.now) u v }
 {
-    known::needs(tracks, words, directory, lens, starts, k, u, v)
+    let index = WholeIndex::new(tracks, words, directory, lens, starts, k);
+    index.needs(u, v)
 }
 
 // Kind 11.
@@ -57,7 +60,8 @@ pub extern "C" fn ngolishepa_inner_is_step(
     requires unit_of_2 { UnitOf tracks.now v }
     ensures { result ≡ kind11 (parts lens.now k tracks.now words.now directory.now) u v }
 {
-    known::is_step(tracks, words, directory, lens, starts, k, u, v)
+    let index = WholeIndex::new(tracks, words, directory, lens, starts, k);
+    index.is_step(u, v)
 }
 
 // Kind 12.
@@ -77,7 +81,8 @@ pub extern "C" fn ngolishepa_inner_needed(
     requires unit_of { UnitOf tracks.now u }
     ensures { record { answer = result; list = list.new } ≡ told_list (list_answer (list_room (kind12 (parts lens.now k tracks.now words.now directory.now) u) list.old place) (kind12 (parts lens.now k tracks.now words.now directory.now) u) list.old place) }
 {
-    telling::tell_number(known::needed(tracks, words, directory, lens, starts, k, u, list, place))
+    let index = WholeIndex::new(tracks, words, directory, lens, starts, k);
+    index.needed(u, list, place).into()
 }
 
 // Kind 13.
@@ -97,7 +102,8 @@ pub extern "C" fn ngolishepa_inner_needing(
     requires unit_of { UnitOf tracks.now u }
     ensures { record { answer = result; list = list.new } ≡ told_list (list_answer (list_room (kind13 (parts lens.now k tracks.now words.now directory.now) u) list.old place) (kind13 (parts lens.now k tracks.now words.now directory.now) u) list.old place) }
 {
-    telling::tell_number(known::needing(tracks, words, directory, lens, starts, k, u, list, place))
+    let index = WholeIndex::new(tracks, words, directory, lens, starts, k);
+    index.needing(u, list, place).into()
 }
 
 // Kind 14.
@@ -117,7 +123,8 @@ pub extern "C" fn ngolishepa_inner_steps(
     requires unit_of { UnitOf tracks.now u }
     ensures { record { answer = result; list = list.new } ≡ told_list (list_answer (list_room (kind14 (parts lens.now k tracks.now words.now directory.now) u) list.old place) (kind14 (parts lens.now k tracks.now words.now directory.now) u) list.old place) }
 {
-    telling::tell_number(known::steps(tracks, words, directory, lens, starts, k, u, list, place))
+    let index = WholeIndex::new(tracks, words, directory, lens, starts, k);
+    index.steps(u, list, place).into()
 }
 
 // Kind 15.
@@ -137,7 +144,8 @@ pub extern "C" fn ngolishepa_inner_steps_up(
     requires unit_of { UnitOf tracks.now u }
     ensures { record { answer = result; list = list.new } ≡ told_list (list_answer (list_room (kind15 (parts lens.now k tracks.now words.now directory.now) u) list.old place) (kind15 (parts lens.now k tracks.now words.now directory.now) u) list.old place) }
 {
-    telling::tell_number(known::steps_up(tracks, words, directory, lens, starts, k, u, list, place))
+    let index = WholeIndex::new(tracks, words, directory, lens, starts, k);
+    index.steps_up(u, list, place).into()
 }
 
 // Kind 16.
@@ -155,5 +163,6 @@ pub extern "C" fn ngolishepa_inner_stage(
     requires unit_of { UnitOf tracks.now u }
     ensures { result ≡ kind16 (parts lens.now k tracks.now words.now directory.now) u }
 {
-    known::stage(tracks, words, directory, lens, starts, k, u)
+    let index = WholeIndex::new(tracks, words, directory, lens, starts, k);
+    index.stage(u)
 }

@@ -18,7 +18,7 @@ use Rattle.rules.proofs.Wholes.{Whole, whole_is, unit_track, unit_position, size
 use Rattle.bounds.specs.Known.{Known, Standing, none_reaches}
 use Rattle.bounds.proofs.Knowing.{known_whole}
 use Rattle.lists.specs.Spans.{in_spans, spanned, Tracks, Held}
-use Rattle.lists.proofs.Spans.{spanned_same}
+use Rattle.lists.proofs.Units.{spanned_same}
 use Rattle.known.specs.Asked.{Sure, UnitOf}
 
 -- ---- the lows and the highs of a unit, one for each track

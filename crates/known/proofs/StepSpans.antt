@@ -21,8 +21,8 @@ use Rattle.rules.proofs.Verdicts.{and_both, both_and, no_and, and_no, same_test}
 use Rattle.rules.proofs.Wholes.{sizes_are, low_blocks, high_blocks, step_at-low, step_at-high}
 use Rattle.bounds.specs.Known.{Standing, none_reaches, reaches_none}
 use Rattle.lists.specs.Spans.{in_spans, spanned, last_spanned, Held}
-use Rattle.lists.proofs.Spans.{spanned_same, last_same}
-use Rattle.known.specs.declared.Spans.{Spans}
+use Rattle.lists.proofs.Units.{spanned_same, last_same}
+use Rattle.lists.specs.declared.Spans.{Spans}
 use Rattle.known.specs.Asked.{Sure, UnitOf, one_from, one_to, step_at, step_up_at}
 use Rattle.known.proofs.Asking.{lows_of, highs_of, whole_of, low_entry, high_entry, unit_to, standing_of, lows_within, highs_from, lows_clear}
 
@@ -95,6 +95,10 @@ module _ (s : ℕ → ℕ) (k : ℕ) (words at : List ℕ) (q : ℕ) where
   unfolding step_at
   step_there l h = rw (lt-ltb q k l, le-leb 1 (get_or at q 0) h)
 
+  pub step_below : q < k → step_at s k words at q ≡ (leb 1 (get_or at q 0) && none_reaches s k words at q (get_or at q 0))
+  unfolding step_at
+  step_below l = rw (lt-ltb q k l)
+
   pub step_up_past : k ≤ q → step_up_at s k words at q ≡ false
   unfolding step_up_at
   step_up_past l = rw (le-ltb q k l)
@@ -106,6 +110,10 @@ module _ (s : ℕ → ℕ) (k : ℕ) (words at : List ℕ) (q : ℕ) where
   pub step_up_there : q < k → get_or at q 0 ≤ s q → step_up_at s k words at q ≡ reaches_none s k words q (get_or at q 0) at
   unfolding step_up_at
   step_up_there l h = rw (lt-ltb q k l, le-leb (get_or at q 0) (s q) h)
+
+  pub step_up_below : q < k → step_up_at s k words at q ≡ (leb (get_or at q 0) (s q) && reaches_none s k words q (get_or at q 0) at)
+  unfolding step_up_at
+  step_up_below l = rw (lt-ltb q k l)
 
 -- ---- units in the spans of one position
 

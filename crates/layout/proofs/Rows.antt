@@ -1,6 +1,6 @@
 -- The table by which a vector is found: its length, what stands in it, and how it is filled. Assumes nothing.
 use Prim.Native.Nat.{ℕ, ◌+◌, ◌-◌, ◌≤◌, ◌<◌}
-use mathlib.Core.Path.{◌≡◌, refl, sym, ◌∙◌}
+use mathlib.Core.Path.{◌≡◌, refl, sym, ap, ◌∙◌}
 use mathlib.Core.Bool.{cond}
 use mathlib.Core.List.{List}
 use native.Mathlib.Omega.{arith}
@@ -43,6 +43,13 @@ module _ (s : ℕ → ℕ) (k : ℕ) where
   pub units_at : (q : ℕ) → q ≤ k → k ≤ 32 → get_or (row_starts s k) (q + 33) 0 ≡ sum s q
   unfolding row_starts
   units_at q h few = units_in k q h few
+
+  module _ {row : List ℕ} (e : row ≡ row_starts s k) (few : k ≤ 32) where
+    pub row_start : (p : ℕ) → p ≤ k → get_or row p 0 ≡ offset s k p 0
+    row_start p h = ap (λ r. get_or r p 0) e ∙ starts_at p h few
+
+    pub row_units : (q : ℕ) → q ≤ k → get_or row (q + 33) 0 ≡ sum s q
+    row_units q h = ap (λ r. get_or r (q + 33) 0) e ∙ units_at q h few
 
   -- ---- how it is filled
 

@@ -1,4 +1,5 @@
 // Where the vectors stand among the bits, from the lengths of the tracks.
+// `as` narrows only what a clause bounds: `try_from` would bring in a failure that cannot come.
 #![tactic(auto)]
 
 ghost use Rattle.std.specs.Prelude.{◌+◌, ◌-◌, ◌*◌, ◌≤◌, ◌<◌, ◌≡◌, ltb};
@@ -6,20 +7,6 @@ ghost use Rattle.rules.specs.Ranges.{sum, bit1};
 ghost use Rattle.rules.specs.Layout.{vector_room, offset};
 ghost use Rattle.rules.specs.Index.{lens_of};
 ghost use Rattle.layout.specs.Starts.{row_starts};
-
-// A length or a position as a usize.
-pub fn wide(number: u16) -> usize
-    ensures { (result ≡ number) × (result < 65536) }
-{
-    number as usize
-}
-
-// An entry of the table below as a number of bits or units.
-pub fn entry(number: u32) -> usize
-    ensures { (result ≡ number) × (result < 4294967296) }
-{
-    number as usize
-}
 
 // A number as often as there are tracks, or fewer.
 fn times(count: usize, number: usize) -> usize
@@ -40,7 +27,7 @@ pub fn vector_room(lens: &[u16; 32], p: usize, q: usize) -> usize
     if p == q {
         0
     } else {
-        wide(lens[p]) + wide(lens[q])
+        usize::from(lens[p]) + usize::from(lens[q])
     }
 }
 
@@ -51,10 +38,8 @@ fn units_of(lens: &[u16; 32], k: usize) -> usize
     ensures narrow { result ≤ 65536 * k }
 {
     let mut units: usize = 0;
-    let mut q: usize = 0;
-    while q < k {
-        units += wide(lens[q]);
-        q += 1;
+    for &len in &lens[..k] {
+        units += usize::from(len);
     }
     units
 }
@@ -67,25 +52,25 @@ pub fn row_starts(lens: &[u16; 32], k: usize) -> [u32; 66]
 {
     let mut row = [0u32; 66];
     let units = units_of(lens, k);
-    let mut p: usize = 0;
-    while p < k {
-        let own = wide(lens[p]);
+    for p in 0..k {
+        let own = usize::from(lens[p]);
         let bit = row[p];
         let before = row[p + 33];
         row[p + 1] = bit + (times(k, own) + units - 2 * own) as u32;
-        row[p + 34] = before + own as u32;
-        p += 1;
+        row[p + 34] = before + u32::from(lens[p]);
     }
     row
 }
+
+// Lengths, table and k come apart: the fields of `bounds::Vectors`, whose methods are the only callers of the next two.
 
 // The first bit of vector p,q among k tracks.
 pub fn vector_start(lens: &[u16; 32], row: &[u32; 66], k: usize, p: usize, q: usize) -> usize
     requires { (k ≤ 32) × (p < k) × (q < k) × (row.now ≡ row_starts (lens_of lens.now) k) }
     ensures { result ≡ offset (lens_of lens.now) k p q }
 {
-    let own = wide(lens[p]);
-    let bit = entry(row[p]) + entry(row[q + 33]) + times(q, own);
+    let own = usize::from(lens[p]);
+    let bit = row[p] as usize + row[q + 33] as usize + times(q, own);
     if p < q { bit - 2 * own } else { bit }
 }
 
@@ -94,8 +79,8 @@ pub fn vector_ones(lens: &[u16; 32], row: &[u32; 66], k: usize, p: usize, q: usi
     requires { (k ≤ 32) × (p < k) × (q < k) × (row.now ≡ row_starts (lens_of lens.now) k) }
     ensures { result ≡ (k - 1) * sum (lens_of lens.now) p + (q - bit1 (ltb p q)) * lens_of lens.now p }
 {
-    let before = times(k - 1, entry(row[p + 33]));
-    let own = wide(lens[p]);
+    let before = times(k - 1, row[p + 33] as usize);
+    let own = usize::from(lens[p]);
     if p < q {
         before + times(q - 1, own)
     } else {

@@ -1,6 +1,7 @@
 -- The part of a need list that begins with a unit u: as its pairs ascend, it stands in one piece, from the first pair with u or more up to
 -- the first pair with more than u.
 -- Assumes nothing.
+use Rattle.std.specs.Prelude.{Ok, Err}
 use Prim.Native.Nat.{ℕ, zero, suc, ◌+◌, ◌-◌, ◌*◌, ◌≤◌, ◌<◌, min}
 use mathlib.Core.Path.{◌≡◌, refl, sym, ap, ◌∙◌}
 use mathlib.Core.List.{List, [], ◌∷◌, ◌++◌, append-nil}
@@ -16,10 +17,8 @@ use Rattle.rules.specs.Ranges.{first}
 use Rattle.rules.specs.Listing.{pairs, upper, lower, within, counted_needs}
 use Rattle.rules.specs.declared.Refusal.{Refusal}
 use Rattle.rules.specs.declared.Refusal.TheVariants.{OutOfLimits, BadArgument}
-use Rattle.rules.specs.declared.Verdict.{Verdict}
-use Rattle.rules.specs.declared.Verdict.TheVariants.{Fine, Refused}
 use Rattle.rules.specs.Limits.{max_units}
-use Rattle.rules.specs.Refusals.{unless}
+use Rattle.rules.specs.Refusals.{unless, Verdict}
 use Rattle.rules.specs.Outcomes.{part_verdict, pairs_from, part_outcome}
 use Rattle.rules.proofs.Ranges.{first_le, first_before, first_met}
 use Rattle.rules.proofs.Verdicts.{within_is, then_fine, unless_fine}
@@ -117,7 +116,7 @@ module _ (l : List ℕ) (rising : Rising l) where
 -- ---- by the verdict
 
 -- the unit is one, and the pairs are in order
-pub parted : (l : List ℕ) (u : ℕ) → part_verdict l u ≡ Fine → (u ≤ 1024) × Pairs 1024 l
+pub parted : (l : List ℕ) (u : ℕ) → part_verdict l u ≡ Ok tt → (u ≤ 1024) × Pairs 1024 l
 unfolding part_verdict
 parted l u h =
     let a = then_fine (unless (within 1 max_units u) (BadArgument 1)) _ h in
@@ -125,11 +124,11 @@ parted l u h =
     ((within_is 1 max_units u (unless_fine _ (BadArgument 1) a.0)).1, pairs_fine 1024 l b.1)
 
 -- a refused part stands at the start and holds nothing
-pub span_refused : (l : List ℕ) (u : ℕ) (r : Refusal) → part_verdict l u ≡ Refused r → record { start = 0; count = 0 } ≡ part_span l u
+pub span_refused : (l : List ℕ) (u : ℕ) (r : Refusal) → part_verdict l u ≡ Err r → record { start = 0; count = 0 } ≡ part_span l u
 unfolding part_span
 span_refused l u r h = rw h
 
-pub span_fine : (l : List ℕ) (u : ℕ) → part_verdict l u ≡ Fine
+pub span_fine : (l : List ℕ) (u : ℕ) → part_verdict l u ≡ Ok tt
     → record { start = 2 * pair_from l u; count = 2 * pair_from l (u + 1) - 2 * pair_from l u } ≡ part_span l u
 unfolding part_span
 span_fine l u h = rw h
@@ -140,5 +139,5 @@ unfolding part_span part_outcome pair_from
 span_part l u = go (part_verdict l u) refl
   where
     go : (v : Verdict) → part_verdict l u ≡ v → take (part_span l u).count (drop (part_span l u).start l) ≡ part_outcome l u
-    go Fine h = rw h (sym (part_piece l (pairs_rise (parted l u h).1) u))
-    go (Refused r) h = rw h
+    go (Ok _) h = rw h (sym (part_piece l (pairs_rise (parted l u h).1) u))
+    go (Err r) h = rw h

@@ -1,2 +1,2 @@
 -- The laws of the spans.
-pub mod Spans
+pub mod Units

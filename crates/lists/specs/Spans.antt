@@ -1,6 +1,6 @@
 -- Units by a span of positions in each track.
+use Rattle.rules.specs.Refusals.{NumberAnswer}
 use Rattle.std.specs.Prelude.{ℕ, ◌≤◌, ◌<◌, Bool, cond, ◌&&◌, List, length, get_or, leb}
-use Rattle.rules.specs.declared.NumberAnswer.{NumberAnswer}
 use Rattle.rules.specs.Ranges.{greatest}
 use Rattle.rules.specs.Listing.{track, size, position}
 use Rattle.rules.specs.Questions.{units_where}

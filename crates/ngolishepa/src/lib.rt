@@ -1,4 +1,5 @@
-// The calls of the box for C: each hands its arguments on and tells the answer as plain numbers. include/ngolishepa.h declares them.
+// The calls of the box for C: each hands its arguments on and tells the answer as plain numbers. include/ngolishepa.h declares them, so their
+// parameters and the structs here stay as C has them.
 #![tactic(auto)]
 
 ghost use Rattle.std.specs.Prelude.{◌≡◌};
@@ -9,7 +10,7 @@ ghost use Rattle.rules.specs.Told.{told_verdict, told_pair, told_number, told_li
 ghost use Rattle.ngolishepa.specs.Told.{told_part, told_build, BuildTold};
 ghost use Rattle.ngolishepa.specs.Version.{version};
 
-use rules::{Head, NumberTold, PairTold, Told};
+use rules::{Head, Index, Listing, NumberTold, PairTold, Told};
 
 // What a build answers.
 #[repr(C)]
@@ -35,7 +36,13 @@ pub struct PartTold {
 pub extern "C" fn ngolishepa_check_listing(n: u16, k: u16, tracks: &[u16], needs: &[u16]) -> Told
     ensures { result ≡ told_verdict (listing_verdict (listing n k tracks.now needs.now)) }
 {
-    telling::tell_verdict(listing::check(n, k, tracks, needs))
+    let course = Listing {
+        n,
+        k,
+        tracks,
+        needs,
+    };
+    listing::check(&course).into()
 }
 
 #[unsafe(no_mangle)]
@@ -44,7 +51,7 @@ pub extern "C" fn ngolishepa_part(needs: &[u16], unit: u16) -> PartTold
 {
     let span = listing::part_span(needs, unit);
     PartTold {
-        refusal: telling::tell_verdict(listing::part_verdict(needs, unit)),
+        refusal: listing::part_verdict(needs, unit).into(),
         start: span.start,
         count: span.count,
     }
@@ -64,15 +71,27 @@ pub extern "C" fn ngolishepa_build(
 ) -> BuiltTold
     ensures { record { answer = result; words = words.new; directory = directory.new; work = work.new } ≡ told_build (build_outcome (listing n k tracks.now needs.now) words.old directory.old work.old) }
 {
-    let built = build::build(n, k, tracks, needs, words, directory, work);
-    let head = built.head;
-    let bits = built.bits;
-    let verdict = built.verdict;
-    let refusal = telling::tell_verdict(verdict);
-    BuiltTold {
-        head,
-        bits,
-        refusal,
+    let course = Listing {
+        n,
+        k,
+        tracks,
+        needs,
+    };
+    match build::build(&course, words, directory, work) {
+        Ok(built) => BuiltTold {
+            head: built.head,
+            bits: built.bits,
+            refusal: Told::from(Ok(())),
+        },
+        Err(refusal) => BuiltTold {
+            head: Head {
+                lens: [0; 32],
+                n: 0,
+                k: 0,
+            },
+            bits: 0,
+            refusal: refusal.into(),
+        },
     }
 }
 
@@ -85,7 +104,13 @@ pub extern "C" fn ngolishepa_check_index(
 ) -> Told
     ensures { result ≡ told_verdict (whole_verdict (index head tracks.now words.now directory.now)) }
 {
-    telling::tell_verdict(whole::check(head, tracks, words, directory))
+    let index = Index {
+        head,
+        tracks,
+        words,
+        directory,
+    };
+    whole::check(&index).into()
 }
 
 // ---- the questions
@@ -102,7 +127,13 @@ pub extern "C" fn ngolishepa_needs(
 ) -> PairTold
     ensures { result ≡ told_pair (needs_outcome (index head tracks.now words.now directory.now) u v) }
 {
-    telling::tell_pair(pair_questions::needs(head, tracks, words, directory, u, v))
+    let index = Index {
+        head,
+        tracks,
+        words,
+        directory,
+    };
+    pair_questions::needs(&index, u, v).into()
 }
 
 // Kind 11.
@@ -117,7 +148,13 @@ pub extern "C" fn ngolishepa_is_step(
 ) -> PairTold
     ensures { result ≡ told_pair (is_step_outcome (index head tracks.now words.now directory.now) u v) }
 {
-    telling::tell_pair(pair_questions::is_step(head, tracks, words, directory, u, v))
+    let index = Index {
+        head,
+        tracks,
+        words,
+        directory,
+    };
+    pair_questions::is_step(&index, u, v).into()
 }
 
 // Kind 12.
@@ -133,7 +170,13 @@ pub extern "C" fn ngolishepa_needed(
 ) -> NumberTold
     ensures { record { answer = result; list = list.new } ≡ told_list (needed_outcome (index head tracks.now words.now directory.now) u list.old place) }
 {
-    telling::tell_number(list_questions::needed(head, tracks, words, directory, u, list, place))
+    let index = Index {
+        head,
+        tracks,
+        words,
+        directory,
+    };
+    list_questions::needed(&index, u, list, place).into()
 }
 
 // Kind 13.
@@ -149,7 +192,13 @@ pub extern "C" fn ngolishepa_needing(
 ) -> NumberTold
     ensures { record { answer = result; list = list.new } ≡ told_list (needing_outcome (index head tracks.now words.now directory.now) u list.old place) }
 {
-    telling::tell_number(list_questions::needing(head, tracks, words, directory, u, list, place))
+    let index = Index {
+        head,
+        tracks,
+        words,
+        directory,
+    };
+    list_questions::needing(&index, u, list, place).into()
 }
 
 // Kind 14.
@@ -165,7 +214,13 @@ pub extern "C" fn ngolishepa_steps(
 ) -> NumberTold
     ensures { record { answer = result; list = list.new } ≡ told_list (steps_outcome (index head tracks.now words.now directory.now) u list.old place) }
 {
-    telling::tell_number(list_questions::steps(head, tracks, words, directory, u, list, place))
+    let index = Index {
+        head,
+        tracks,
+        words,
+        directory,
+    };
+    list_questions::steps(&index, u, list, place).into()
 }
 
 // Kind 15.
@@ -181,7 +236,13 @@ pub extern "C" fn ngolishepa_steps_up(
 ) -> NumberTold
     ensures { record { answer = result; list = list.new } ≡ told_list (steps_up_outcome (index head tracks.now words.now directory.now) u list.old place) }
 {
-    telling::tell_number(list_questions::steps_up(head, tracks, words, directory, u, list, place))
+    let index = Index {
+        head,
+        tracks,
+        words,
+        directory,
+    };
+    list_questions::steps_up(&index, u, list, place).into()
 }
 
 // Kind 16.
@@ -195,7 +256,13 @@ pub extern "C" fn ngolishepa_stage(
 ) -> NumberTold
     ensures { result ≡ told_number (stage_outcome (index head tracks.now words.now directory.now) u) }
 {
-    telling::tell_number(number_questions::stage(head, tracks, words, directory, u))
+    let index = Index {
+        head,
+        tracks,
+        words,
+        directory,
+    };
+    number_questions::stage(&index, u).into()
 }
 
 // Kind 17.
@@ -210,7 +277,13 @@ pub extern "C" fn ngolishepa_unit_low(
 ) -> NumberTold
     ensures { result ≡ told_number (unit_low_outcome (index head tracks.now words.now directory.now) u q) }
 {
-    telling::tell_number(number_questions::unit_low(head, tracks, words, directory, u, q))
+    let index = Index {
+        head,
+        tracks,
+        words,
+        directory,
+    };
+    number_questions::unit_low(&index, u, q).into()
 }
 
 // Kind 18.
@@ -225,7 +298,13 @@ pub extern "C" fn ngolishepa_unit_high(
 ) -> NumberTold
     ensures { result ≡ told_number (unit_high_outcome (index head tracks.now words.now directory.now) u q) }
 {
-    telling::tell_number(number_questions::unit_high(head, tracks, words, directory, u, q))
+    let index = Index {
+        head,
+        tracks,
+        words,
+        directory,
+    };
+    number_questions::unit_high(&index, u, q).into()
 }
 
 // ---- the version

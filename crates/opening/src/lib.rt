@@ -15,13 +15,15 @@ pub fn head_frame(card: Card, n: u16, k: u16, out: &mut [u8]) -> Step
     ensures { (a : Areas) → Fit card a → Took (rule.head_frame (reading_of card a) n k) out.old result a out.new }
 {
     if n == 0 || rules::MAX_UNITS < n || k == 0 || rules::MAX_TRACKS < k {
-        return reading::refuse(card, Refusal::OutOfLimits, out);
+        return card.refuse(Refusal::OutOfLimits, out);
     }
-    let mut next = reading::in_phase(card, Phase::Tracks);
-    next.n = n;
-    next.k = k;
     Step {
-        card: next,
+        card: Card {
+            phase: Phase::Tracks,
+            n,
+            k,
+            ..card
+        },
         wrote: 0,
     }
 }
@@ -32,8 +34,8 @@ pub fn track_frame(card: Card, unit: u16, track: u16, tracks: &mut [u16], out: &
     ensures { TrackTaken card unit track tracks.old out.old result tracks.new out.new }
 {
     let units = card.units;
-    if unit as usize != units + 1 {
-        return reading::misplaced(card, out);
+    if usize::from(unit) != units + 1 {
+        return card.misplaced(out);
     }
     tracks[units] = track;
     let phase = if unit == card.n {
@@ -41,10 +43,12 @@ pub fn track_frame(card: Card, unit: u16, track: u16, tracks: &mut [u16], out: &
     } else {
         Phase::Tracks
     };
-    let mut next = reading::in_phase(card, phase);
-    next.units = units + 1;
     Step {
-        card: next,
+        card: Card {
+            phase,
+            units: units + 1,
+            ..card
+        },
         wrote: 0,
     }
 }

@@ -8,7 +8,7 @@ use native.Mathlib.Omega.{arith}
 use borrow.Author.Tests.{eq-eqb, ne_eqb, lt-ltb, le-ltb}
 use Rattle.rules.specs.declared.Refusal.TheVariants as refusal
 use Rattle.frames.specs.declared.Frame.{Frame}
-use Rattle.frames.specs.declared.Line.TheVariants.{IsFrame, NoFrame}
+use Rattle.std.specs.Prelude.{Some, None}
 use Rattle.frames.specs.Lines.{line_of}
 use Rattle.reading.specs.declared.Phase.{Phase}
 use Rattle.reading.specs.declared.Phase.TheVariants.{Head, Tracks, Needs, Asking, Stopped}
@@ -55,7 +55,7 @@ module _ (r : Reading) (f : Frame) {phase : Phase} where
 
 -- ---- a line that is a frame
 
-module _ (r : Reading) (line : List ℕ) {f : Frame} (h : reads r.phase ≡ true) (e : line_of line ≡ IsFrame f) where
+module _ (r : Reading) (line : List ℕ) {f : Frame} (h : reads r.phase ≡ true) (e : line_of line ≡ Some f) where
   pub late_line : 65535 < r.lines + 1 → read_line r line ≡ misplaced (counted r)
   unfolding read_line
   late_line l = rw (h, e, lt-ltb 65535 (r.lines + 1) l)
@@ -70,7 +70,7 @@ pub stopped_line : (r : Reading) (line : List ℕ) → reads r.phase ≡ false �
 unfolding read_line
 stopped_line r line h = rw h
 
-pub no_frame_line : (r : Reading) (line : List ℕ) → reads r.phase ≡ true → line_of line ≡ NoFrame
+pub no_frame_line : (r : Reading) (line : List ℕ) → reads r.phase ≡ true → line_of line ≡ None
     → read_line r line ≡ refuse (counted r) (refusal.NoFrame (r.lines + 1))
 unfolding read_line
 no_frame_line r line h l = rw (h, l)

@@ -3,12 +3,14 @@
 
 ghost use Rattle.std.specs.Prelude.{◌≤◌, length};
 ghost use Rattle.reading.specs.Card as rule;
-ghost use Rattle.reading.specs.Held.{lent, entered, left, reading_of, Fit, Took};
+ghost use Rattle.reading.specs.Held.{lent, entered, left, held, reading_of, AsLong, SameAreas, Fit, Took};
 
-use frames::{Frame, Line};
-use reading::{Card, Phase, Step};
+use frames::Frame;
+use reading::{Areas, Card, Phase, Step};
 use rules::Refusal;
 
+// Takes a frame where its phase allows it, or refuses it. The areas come one by one: behind one `&mut Areas` the check does not let some be
+// read while another is written.
 fn frame_in_phase(
     card: Card,
     frame: Frame,
@@ -24,32 +26,22 @@ fn frame_in_phase(
     requires in_bounds { 5125 ≤ length out.old }
     ensures { Took (rule.frame_in_phase card.phase (reading_of card (entered tracks needs words directory work list)) frame) out.old result (left tracks needs words directory work list) out.new }
 {
-    let phase = card.phase;
-    match phase {
-        Phase::Head => {
-            if frame.kind != 0x01 {
-                return reading::misplaced(card, out);
-            }
-            opening::head_frame(card, frame.a, frame.b, out)
-        }
-        Phase::Tracks => {
-            if frame.kind != 0x02 {
-                return reading::misplaced(card, out);
-            }
-            opening::track_frame(card, frame.a, frame.b, tracks, out)
-        }
-        Phase::Needs => {
-            let is_need = frame.kind == 0x03;
-            if is_need {
-                return filing::need_frame(card, frame.a, frame.b, needs, out);
-            }
-            if frame.kind != 0x04 {
-                return reading::misplaced(card, out);
-            }
-            filing::end_frame(
+    match card.phase {
+        Phase::Head => match frame.kind {
+            0x01 => opening::head_frame(card, frame.a, frame.b, out),
+            _ => card.misplaced(out),
+        },
+        Phase::Tracks => match frame.kind {
+            0x02 => opening::track_frame(card, frame.a, frame.b, tracks, out),
+            _ => card.misplaced(out),
+        },
+        Phase::Needs => match frame.kind {
+            0x03 => filing::need_frame(card, frame.a, frame.b, needs, out),
+            0x04 => filing::end_frame(
                 card, frame.a, frame.b, tracks, needs, words, directory, work, out,
-            )
-        }
+            ),
+            _ => card.misplaced(out),
+        },
         Phase::Asking => {
             let units = card.units;
             let count = card.count;
@@ -71,34 +63,35 @@ fn frame_in_phase(
 }
 
 // Reads one line. The areas are large enough for any course; `out` for any answer.
-pub fn read(
-    card: Card,
-    line: &[u8],
-    tracks: &mut [u16],
-    needs: &mut [u16],
-    words: &mut [u64],
-    directory: &mut [u16],
-    work: &mut [u16],
-    list: &mut [u16],
-    out: &mut [u8],
-) -> Step
-    requires fit { Fit card (lent tracks needs words directory work list) }
+pub fn read(card: Card, line: &[u8], areas: &mut Areas, out: &mut [u8]) -> Step
+    requires fit { Fit card (held areas.old) }
     requires in_bounds { 5125 ≤ length out.old }
-    ensures { Took (rule.read_line (reading_of card (entered tracks needs words directory work list)) line.now) out.old result (left tracks needs words directory work list) out.new }
+    ensures same { SameAreas areas.old areas.new }
+    ensures lengths { AsLong (held areas.old) (held areas.new) }
+    ensures taken { Took (rule.read_line (reading_of card (held areas.old)) line.now) out.old result (held areas.new) out.new }
 {
-    if !reading::is_reading(card) {
+    if !card.is_reading() {
         return Step { card, wrote: 0 };
     }
-    let mut next = card;
-    next.lines = card.lines + 1;
-    let Line::IsFrame(frame) = frames::read_line(line) else {
-        return reading::refuse(next, Refusal::NoFrame(next.lines), out);
+    let next = Card {
+        lines: card.lines + 1,
+        ..card
     };
-    let late = rules::MAX_LINES < next.lines;
-    if late {
-        return reading::misplaced(next, out);
+    let Some(frame) = frames::read_line(line) else {
+        return next.refuse(Refusal::NoFrame(next.lines), out);
+    };
+    if rules::MAX_LINES < next.lines {
+        return next.misplaced(out);
     }
     frame_in_phase(
-        next, frame, tracks, needs, words, directory, work, list, out,
+        next,
+        frame,
+        areas.tracks,
+        areas.needs,
+        areas.words,
+        areas.directory,
+        areas.work,
+        areas.list,
+        out,
     )
 }

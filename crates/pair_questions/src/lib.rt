@@ -1,62 +1,29 @@
 // Kinds 10 and 11, asked of any index: the index is judged first, then the two units, and only then the question is asked.
-#![tactic(auto)]
+// Each question is its three steps: a function that takes the last as a closure would state the closure's clauses, and be longer.
+#![tactic(auto, unfolding(rules::specs::Outcomes::pair_outcome), using(whole::proofs::Judging::whole_fine, whole::proofs::Judging::whole_refused, arguments::proofs::Granted::unit_of))]
 
 ghost use Rattle.std.specs.Prelude.{◌≡◌};
-ghost use Rattle.rules.specs.Index.{index};
-ghost use Rattle.rules.specs.Outcomes.{yes_or_no, needs_outcome, is_step_outcome};
+ghost use Rattle.rules.specs.Lent.{lent_index};
+ghost use Rattle.rules.specs.Outcomes.{needs_outcome, is_step_outcome};
 
-use rules::{Head, PairAnswer, Verdict};
+use rules::{Index, Refusal};
 
 // Kind 10: u needs v.
-pub fn needs(
-    head: Head,
-    tracks: &[u16],
-    words: &[u64],
-    directory: &[u16],
-    u: u16,
-    v: u16,
-) -> PairAnswer
-    ensures { result ≡ needs_outcome (index head tracks.now words.now directory.now) u v }
+pub fn needs(index: &Index, u: u16, v: u16) -> Result<bool, Refusal>
+    ensures { result ≡ needs_outcome (lent_index index.now) u v }
 {
-    let lens = head.lens;
-    let n = head.n;
-    let k = head.k;
-    let judged = whole::judge(head, tracks, words, directory);
-    let row = judged.row;
-    if let Verdict::Refused(refusal) = arguments::two_units(judged.fault, n, u, v) {
-        return PairAnswer::Refused(refusal);
-    }
-    yes_or_no(known::needs(tracks, words, directory, &lens, &row, k as usize, u, v))
+    let row = whole::judge(index)?; // refusal 9
+    arguments::unit(index.head.n, 1, u)?; // refusal 8
+    arguments::unit(index.head.n, 2, v)?;
+    Ok(arguments::asked(index, &row).needs(u, v))
 }
 
 // Kind 11: v is a direct step of u.
-pub fn is_step(
-    head: Head,
-    tracks: &[u16],
-    words: &[u64],
-    directory: &[u16],
-    u: u16,
-    v: u16,
-) -> PairAnswer
-    ensures { result ≡ is_step_outcome (index head tracks.now words.now directory.now) u v }
+pub fn is_step(index: &Index, u: u16, v: u16) -> Result<bool, Refusal>
+    ensures { result ≡ is_step_outcome (lent_index index.now) u v }
 {
-    let lens = head.lens;
-    let n = head.n;
-    let k = head.k;
-    let judged = whole::judge(head, tracks, words, directory);
-    let row = judged.row;
-    if let Verdict::Refused(refusal) = arguments::two_units(judged.fault, n, u, v) {
-        return PairAnswer::Refused(refusal);
-    }
-    yes_or_no(known::is_step(tracks, words, directory, &lens, &row, k as usize, u, v))
-}
-
-fn yes_or_no(holds: bool) -> PairAnswer
-    ensures { result ≡ yes_or_no holds }
-{
-    if holds {
-        PairAnswer::Yes
-    } else {
-        PairAnswer::No
-    }
+    let row = whole::judge(index)?;
+    arguments::unit(index.head.n, 1, u)?;
+    arguments::unit(index.head.n, 2, v)?;
+    Ok(arguments::asked(index, &row).is_step(u, v))
 }

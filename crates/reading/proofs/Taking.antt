@@ -10,7 +10,7 @@ use Rattle.rules.specs.declared.Refusal.{Refusal}
 use Rattle.rules.specs.Ranges.{over}
 use Rattle.rules.specs.Listing.{pairs}
 use Rattle.answers.specs.Printed.{refused_line}
-use Rattle.answers.proofs.Lengths.{length-refused}
+use Rattle.answers.proofs.Lengths.{length_refused_line}
 use Rattle.reading.specs.declared.Card.{Card}
 use Rattle.reading.specs.declared.Phase.TheVariants.{Stopped}
 use Rattle.reading.specs.Card.{go_on, refuse}
@@ -46,7 +46,7 @@ pub took_refused : {card : Card} {a : Areas} {before out : List ℕ} {wrote : �
     → out ≡ over before (refused_line refusal)
     → Took (refuse (reading_of card a) refusal) before (record { card = card_in Stopped card; wrote = wrote }) a out
 unfolding refuse
-took_refused refusal h w e = took (refused_line refusal) e (w ∙ sym (length-refused refusal)) (omega arith) (stopped_fit h)
+took_refused refusal h w e = took (refused_line refusal) e (w ∙ sym (length_refused_line refusal)) (omega arith) (stopped_fit h)
 
 -- ---- what the areas hold
 

@@ -1,19 +1,15 @@
 -- A course file read line by line: what stands after each line, and what is printed for it.
-use Rattle.std.specs.Prelude.{ℕ, ◌+◌, Bool, true, false, cond, ◌&&◌, List, [], ◌∷◌, ◌++◌, length, ltb, eqb}
+use Rattle.std.specs.Prelude.{ℕ, ◌+◌, Bool, true, false, cond, ◌&&◌, List, [], ◌∷◌, ◌++◌, length, ltb, eqb, Option, Some, None, Ok, Err}
 use Rattle.rules.specs.declared.Refusal.{Refusal}
 use Rattle.rules.specs.declared.Refusal.TheVariants.{OutOfLimits, NoFrame, FrameOrder}
-use Rattle.rules.specs.declared.Verdict.{Verdict}
-use Rattle.rules.specs.declared.Verdict.TheVariants as verdict
 use Rattle.rules.specs.Limits.{max_units, max_tracks, max_needs, max_lines}
-use Rattle.rules.specs.Refusals.{◌then◌}
+use Rattle.rules.specs.Refusals.{◌then◌, Verdict}
 use Rattle.rules.specs.Listing.{Listing, listing, pairs, within, listing_verdict}
 use Rattle.rules.specs.Order.{sound_verdict}
 use Rattle.rules.specs.Index.{Index, built_index, built_bits}
 use Rattle.rules.specs.Questions.{kind12, kind13, kind14, kind15}
 use Rattle.rules.specs.Outcomes.{unit_verdict, whole_verdict, needs_outcome, is_step_outcome, stage_outcome, unit_low_outcome, unit_high_outcome}
 use Rattle.frames.specs.declared.Frame.{Frame}
-use Rattle.frames.specs.declared.Line.{Line}
-use Rattle.frames.specs.declared.Line.TheVariants as line
 use Rattle.frames.specs.Lines.{line_of}
 use Rattle.answers.specs.Printed.{built_line, refused_line, pair_line, number_line, list_line}
 use Rattle.reading.specs.declared.Phase.{Phase}
@@ -94,8 +90,8 @@ need_frame r a b =
 
 -- refusals 2 to 7, or the index is built
 unfoldable pub loaded : Reading → Verdict → Next
-loaded r verdict.Fine = record { reading = in_phase Asking r; printed = built_line (built_bits (listing_of r)) }
-loaded r (verdict.Refused refusal) = refuse r refusal
+loaded r (Ok _) = record { reading = in_phase Asking r; printed = built_line (built_bits (listing_of r)) }
+loaded r (Err refusal) = refuse r refusal
 
 -- 04 (count of 03 frames, 0)
 unfoldable pub end_frame : Reading → ℕ → ℕ → Next
@@ -111,8 +107,8 @@ answered r printed = record { reading = r; printed = printed }
 
 -- the units, or refusal 8
 abbrev pub units_printed : Verdict → List ℕ → List ℕ
-units_printed verdict.Fine units = list_line units
-units_printed (verdict.Refused refusal) units = refused_line refusal
+units_printed (Ok _) units = list_line units
+units_printed (Err refusal) units = refused_line refusal
 
 unfoldable pub list_printed : Index → ℕ → List ℕ → List ℕ
 list_printed x u units = units_printed (whole_verdict x then unit_verdict x 1 u) units
@@ -152,9 +148,9 @@ counted r =
     record { phase = r.phase; lines = r.lines + 1; n = r.n; k = r.k; tracks = r.tracks; needs = r.needs }
 
 -- the order of frames is looked at only of a line that is a frame
-abbrev pub after_line : Reading → Line → Next
-after_line r line.NoFrame = refuse r (NoFrame r.lines)
-after_line r (line.IsFrame f) = cond (ltb max_lines r.lines) (misplaced r) (frame_in_phase r.phase r f)
+abbrev pub after_line : Reading → Option Frame → Next
+after_line r None = refuse r (NoFrame r.lines)
+after_line r (Some f) = cond (ltb max_lines r.lines) (misplaced r) (frame_in_phase r.phase r f)
 
 -- a card that has stopped reads nothing more
 abbrev pub reads : Phase → Bool

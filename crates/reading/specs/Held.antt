@@ -1,8 +1,7 @@
 -- How a card and the lent areas hold a reading, what each phase has settled of them, and what a step leaves.
-use Rattle.std.specs.Prelude.{ℕ, ◌+◌, ◌*◌, ◌/◌, ◌≤◌, ◌<◌, ◌≡◌, true, List, length, get_or, take, replicate}
+use Rattle.std.specs.Prelude.{ℕ, ◌+◌, ◌*◌, ◌/◌, ◌≤◌, ◌<◌, ◌≡◌, true, List, length, get_or, take, replicate, Ok}
 use Rattle.std.specs.Borrow.{MutBor}
 use denote.Triple.Both.{Both}
-use Rattle.rules.specs.declared.Verdict.TheVariants.{Fine}
 use Rattle.rules.specs.Ranges.{table, over}
 use Rattle.rules.specs.Listing.{size, listing_verdict}
 use Rattle.rules.specs.Order.{sound_verdict}
@@ -11,6 +10,7 @@ use Rattle.rules.specs.Questions.{kind16}
 use Rattle.layout.specs.Starts.{row_starts}
 use Rattle.stages.specs.Stages.{stage_table}
 use Rattle.known.specs.Asked.{parts, Sure}
+use Rattle.reading.specs.declared.Areas as declared_areas
 use Rattle.reading.specs.declared.Card.{Card}
 use Rattle.reading.specs.declared.Step.{Step}
 use Rattle.reading.specs.declared.Phase.{Phase}
@@ -32,7 +32,29 @@ abbrev pub areas : List ℕ → List ℕ → List ℕ → List ℕ → List ℕ 
 areas tracks needs words directory work list =
     record { tracks = tracks; needs = needs; words = words; directory = directory; work = work; list = list }
 
--- the areas as they are lent; and by what a call is lent and leaves: as it finds them, and as it leaves them
+-- what the areas hold as they are lent
+abbrev pub held : declared_areas.Areas → Areas
+held a = areas a.tracks.now a.needs.now a.words.now a.directory.now a.work.now a.list.now
+
+-- areas of the same lengths
+pub record AsLong (a a' : Areas) : Type 0 where
+  pub tracks_long : length a'.tracks ≡ length a.tracks
+  pub needs_long : length a'.needs ≡ length a.needs
+  pub words_long : length a'.words ≡ length a.words
+  pub directory_long : length a'.directory ≡ length a.directory
+  pub work_long : length a'.work ≡ length a.work
+  pub list_long : length a'.list ≡ length a.list
+
+-- each area is still the one that was lent
+pub record SameAreas (a a' : declared_areas.Areas) : Type 0 where
+  pub tracks_same : a'.tracks.ghost_name ≡ a.tracks.ghost_name
+  pub needs_same : a'.needs.ghost_name ≡ a.needs.ghost_name
+  pub words_same : a'.words.ghost_name ≡ a.words.ghost_name
+  pub directory_same : a'.directory.ghost_name ≡ a.directory.ghost_name
+  pub work_same : a'.work.ghost_name ≡ a.work.ghost_name
+  pub list_same : a'.list.ghost_name ≡ a.list.ghost_name
+
+-- the areas one by one, as they are lent; and by what a call is lent and leaves: as it finds them, and as it leaves them
 abbrev pub Slice : Type 0
 Slice = MutBor (List ℕ)
 
@@ -115,8 +137,8 @@ pub record Limited (n k : ℕ) : Type 0 where
 
 -- the listing is accepted, the index lies in the areas, and the work area begins with the stages
 pub record Loaded (card : Card) (a : Areas) : Type 0 where
-  pub accepted : listing_verdict (listing_of (reading_of card a)) ≡ Fine
-  pub sound : sound_verdict (listing_of (reading_of card a)) ≡ Fine
+  pub accepted : listing_verdict (listing_of (reading_of card a)) ≡ Ok tt
+  pub sound : sound_verdict (listing_of (reading_of card a)) ≡ Ok tt
   pub count_is : card.count ≡ built_count (listing_of (reading_of card a))
   pub words_are : take card.count a.words ≡ built_words (listing_of (reading_of card a))
   pub directory_is : take card.count a.directory ≡ built_directory (listing_of (reading_of card a))

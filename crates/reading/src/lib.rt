@@ -3,7 +3,8 @@
 
 ghost use Rattle.std.specs.Prelude.{◌≤◌, ◌≡◌, length};
 ghost use Rattle.reading.specs.Card as rule;
-ghost use Rattle.reading.specs.Held.{Areas, reading_of, fresh_card, card_in, Roomy, Took};
+ghost use Rattle.reading.specs.Held as lent;
+ghost use Rattle.reading.specs.Held.{reading_of, fresh_card, Roomy, Took};
 
 use rules::Refusal;
 
@@ -37,6 +38,17 @@ pub struct Card {
     pub row: [u32; 66],
 }
 
+// The areas that a course is read into, as they are lent.
+#[derive(Drop)]
+pub struct Areas<'a> {
+    pub tracks: &'a mut [u16],
+    pub needs: &'a mut [u16],
+    pub words: &'a mut [u64],
+    pub directory: &'a mut [u16],
+    pub work: &'a mut [u16],
+    pub list: &'a mut [u16],
+}
+
 // A card after a line, and how many bytes were printed for it.
 #[derive(Clone, Copy)]
 pub struct Step {
@@ -44,86 +56,61 @@ pub struct Step {
     pub wrote: usize,
 }
 
-// A card before its first line.
-pub fn start() -> Card
-    ensures { result ≡ fresh_card }
-{
-    Card {
-        phase: Phase::Head,
-        lines: 0,
-        n: 0,
-        k: 0,
-        units: 0,
-        pairs: 0,
-        count: 0,
-        lens: [0u16; 32],
-        row: [0u32; 66],
+impl Card {
+    // A card before its first line.
+    pub fn start() -> Card
+        ensures { result ≡ fresh_card }
+    {
+        Card {
+            phase: Phase::Head,
+            lines: 0,
+            n: 0,
+            k: 0,
+            units: 0,
+            pairs: 0,
+            count: 0,
+            lens: [0u16; 32],
+            row: [0u32; 66],
+        }
     }
-}
 
-// The card with another phase.
-pub fn in_phase(card: Card, phase: Phase) -> Card
-    ensures { result ≡ card_in phase card }
-{
-    let lens = card.lens;
-    let row = card.row;
-    Card {
-        phase,
-        lines: card.lines,
-        n: card.n,
-        k: card.k,
-        units: card.units,
-        pairs: card.pairs,
-        count: card.count,
-        lens,
-        row,
+    // Whether a card reads on.
+    pub fn is_reading(&self) -> bool
+        ensures { result ≡ rule.reads self.now.phase }
+    {
+        matches!(
+            self.phase,
+            Phase::Head | Phase::Tracks | Phase::Needs | Phase::Asking
+        )
     }
-}
 
-// Whether a card reads on.
-pub fn is_reading(card: Card) -> bool
-    ensures { result ≡ rule.reads card.phase }
-{
-    let phase = card.phase;
-    match phase {
-        Phase::Head => true,
-        Phase::Tracks => true,
-        Phase::Needs => true,
-        Phase::Asking => true,
-        Phase::Stopped => false,
+    // Whether 04 has not come.
+    pub fn is_unfinished(&self) -> bool
+        ensures { result ≡ rule.unfinished self.now.phase }
+    {
+        matches!(self.phase, Phase::Head | Phase::Tracks | Phase::Needs)
     }
-}
 
-// Whether 04 has not come.
-pub fn is_unfinished(card: Card) -> bool
-    ensures { result ≡ rule.unfinished card.phase }
-{
-    let phase = card.phase;
-    match phase {
-        Phase::Head => true,
-        Phase::Tracks => true,
-        Phase::Needs => true,
-        Phase::Asking => false,
-        Phase::Stopped => false,
+    // The refusal is printed, and nothing more is read.
+    pub fn refuse(self, refusal: Refusal, out: &mut [u8]) -> Step
+        requires { 20 ≤ length out.old }
+        ensures { (a : lent.Areas) → Roomy self a → Took (rule.refuse (reading_of self a) refusal) out.old result a out.new }
+    {
+        let wrote = answers::put_refused(out, refusal);
+        Step {
+            card: Card {
+                phase: Phase::Stopped,
+                ..self
+            },
+            wrote,
+        }
     }
-}
 
-// The refusal is printed, and nothing more is read.
-pub fn refuse(card: Card, refusal: Refusal, out: &mut [u8]) -> Step
-    requires { 20 ≤ length out.old }
-    ensures { (a : Areas) → Roomy card a → Took (rule.refuse (reading_of card a) refusal) out.old result a out.new }
-{
-    let wrote = answers::put_refused(out, refusal);
-    Step {
-        card: in_phase(card, Phase::Stopped),
-        wrote,
+    // A frame that is not allowed here.
+    pub fn misplaced(self, out: &mut [u8]) -> Step
+        requires { 20 ≤ length out.old }
+        ensures { (a : lent.Areas) → Roomy self a → Took (rule.misplaced (reading_of self a)) out.old result a out.new }
+    {
+        self.refuse(Refusal::FrameOrder(self.lines), out)
     }
-}
-
-// A frame that is not allowed here.
-pub fn misplaced(card: Card, out: &mut [u8]) -> Step
-    requires { 20 ≤ length out.old }
-    ensures { (a : Areas) → Roomy card a → Took (rule.misplaced (reading_of card a)) out.old result a out.new }
-{
-    refuse(card, Refusal::FrameOrder(card.lines), out)
 }

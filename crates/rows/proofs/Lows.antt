@@ -10,11 +10,13 @@ use lib.ListN.{length, get_or, set, length-set}
 use lib.Seq.{get_or-set_same}
 use lib.Dec.{eqb}
 use borrow.Author.Tests.{eq-eqb, ne_eqb}
-use Rattle.rules.specs.Ranges.{first, greatest, rows}
+use Rattle.std.specs.Prelude.{Option, Some, None}
+use Rattle.rules.specs.Ranges.{first_found, greatest, rows}
 use Rattle.rules.specs.Listing.{Listing, pairs, in_track}
 use Rattle.rules.specs.Order.{low, unsound}
 use Rattle.rules.specs.Index.{built_work}
-use Rattle.rules.proofs.Ranges.{first_is, first_none, rows_is, length-rows, get_d_rows}
+use Rattle.rules.proofs.Found.{found_at, none_found}
+use Rattle.rules.proofs.Ranges.{rows_is, length-rows, get_d_rows}
 use Rattle.rules.proofs.Tracks.{in_le, track-next}
 use Rattle.rules.proofs.Accepted.{Accepted}
 use Rattle.rules.proofs.Bounds.{reach, own_sound, low_under}
@@ -23,41 +25,39 @@ use Rattle.rows.proofs.RowsWritten.{row_end, entry_other}
 use Rattle.rows.proofs.UnitPairs.{to_all}
 use Rattle.rows.proofs.Reaches.{Reaches, brings-low, own_entry, other_entry}
 
--- ---- the first number from i on that passes, n where none does
+-- ---- the first number from i on that passes, if any
 
-pub record FirstFrom (p : ℕ → Bool) (n i x : ℕ) : Type 0 where
-  pub from : i ≤ x
-  pub to : x ≤ n
-  pub none : (y : ℕ) → i ≤ y → y < x → p y ≡ false
-  pub met : x < n → p x ≡ true
+abbrev pub FirstFrom : (ℕ → Bool) → ℕ → ℕ → Option ℕ → Type 0
+FirstFrom p n i None = (y : ℕ) → i ≤ y → y < n → p y ≡ false
+FirstFrom p n i (Some x) = (i ≤ x) × (x < n) × ((y : ℕ) → i ≤ y → y < x → p y ≡ false) × (p x ≡ true)
 
 module _ (p : ℕ → Bool) (n : ℕ) where
-  from_end : FirstFrom p n n n
-  from_end = record { from = omega arith; to = omega arith; none = λ y a b. absurd (omega arith); met = λ l. absurd (omega arith) }
+  from_end : FirstFrom p n n None
+  from_end = λ y a b. absurd (omega arith)
 
-  from_here : (i : ℕ) → i < n → p i ≡ true → FirstFrom p n i i
-  from_here i l t = record { from = omega arith; to = omega arith; none = λ y a b. absurd (omega arith); met = λ l. t }
+  from_here : (i : ℕ) → i < n → p i ≡ true → FirstFrom p n i (Some i)
+  from_here i l t = (omega arith, l, (λ y a b. absurd (omega arith)), t)
 
-  from_past : (i x : ℕ) → FirstFrom p n (i + 1) x → p i ≡ false → FirstFrom p n i x
-  from_past i x r t = record { from = omega (arith, r.from); to = r.to; none = λ y a b. none y a b (ℕ_discrete i y); met = r.met }
+  from_past : (i : ℕ) (x : Option ℕ) → FirstFrom p n (i + 1) x → p i ≡ false → FirstFrom p n i x
+  from_past i None r t = λ y a b. at y a b (ℕ_discrete i y)
     where
-      none : (y : ℕ) → i ≤ y → y < x → Dec (i ≡ y) → p y ≡ false
-      none y a b (yes e) = rw (sym e) t
-      none y a b (no m) = r.none y (omega (arith, m)) b
-
-  from_start : (x : ℕ) → FirstFrom p n 0 x → x ≡ first p n
-  from_start x r = go (dec_lt x n)
+      at : (y : ℕ) → i ≤ y → y < n → Dec (i ≡ y) → p y ≡ false
+      at y a b (yes e) = rw (sym e) t
+      at y a b (no m) = r y (omega (arith, m)) b
+  from_past i (Some x) r t = (omega (arith, r.0), r.1, (λ y a b. at y a b (ℕ_discrete i y)), r.3)
     where
-      go : Dec (x < n) → x ≡ first p n
-      go (yes l) = sym (first_is p n x l (λ y b. r.none y (omega arith) b) (r.met l))
-      go (no m) =
-          let e : x ≡ n = omega (arith, r.to) in
-          e ∙ sym (first_none p n (λ y b. r.none y (omega arith) (omega arith)))
+      at : (y : ℕ) → i ≤ y → y < x → Dec (i ≡ y) → p y ≡ false
+      at y a b (yes e) = rw (sym e) t
+      at y a b (no m) = r.2 y (omega (arith, m)) b
+
+  from_start : (x : Option ℕ) → FirstFrom p n 0 x → x ≡ first_found p n
+  from_start None r = none_found p n (λ y b. r y (omega arith) b)
+  from_start (Some x) r = found_at p n x r.1 (λ y b. r.2 y (omega arith) b) r.3
 
 -- ---- the rows while they are settled
 
 -- the rows of the first i units are as they were filled, those past them are settled
-pub record RowsSettled (c : Listing) (work : List ℕ) (bad j i : ℕ) : Type 0 where
+pub record RowsSettled (c : Listing) (work : List ℕ) (bad : Option ℕ) (j i : ℕ) : Type 0 where
   pub upto : i ≤ c.n
   pub work_long : length work ≡ c.n * c.k
   pub reached : Reaches c work i
@@ -66,7 +66,7 @@ pub record RowsSettled (c : Listing) (work : List ℕ) (bad j i : ℕ) : Type 0 
   pub refused : FirstFrom (unsound c) c.n i bad
 
 module _ {c : Listing} (a : Accepted c) where
-  pub settled_start : (work : List ℕ) → work ≡ rows (λ i q. reach c (i + 1) q) c.n c.k → RowsSettled c work c.n (pairs c.needs) c.n
+  pub settled_start : (work : List ℕ) → work ≡ rows (λ i q. reach c (i + 1) q) c.n c.k → RowsSettled c work None (pairs c.needs) c.n
   settled_start work e = record {
     upto = omega arith;
     work_long = rw e (length-rows (λ i q. reach c (i + 1) q) c.k c.n);
@@ -77,7 +77,7 @@ module _ {c : Listing} (a : Accepted c) where
   }
 
   -- what the pairs of unit i + 1 bring to its own entry is its low, which is below its position
-  module _ {work : List ℕ} {bad j : ℕ} (i l : ℕ) (s : RowsSettled c work bad j (i + 1))
+  module _ {work : List ℕ} {bad : Option ℕ} {j : ℕ} (i l : ℕ) (s : RowsSettled c work bad j (i + 1))
       (is : l ≡ greatest (brings work c.needs c.k i (get_or c.tracks i 0)) (pairs c.needs)) where
     in_n : i < c.n
     in_n = omega (arith, s.upto)
@@ -100,13 +100,13 @@ module _ {c : Listing} (a : Accepted c) where
     own_test : unsound c i ≡ not (eqb (l + 1) (get_or work (i * c.k + get_or c.tracks i 0) 0))
     own_test = rw (own_low, own_position) (rw (track-next c.tracks i) at (own_sound c a i in_n))
 
-    pub refused_here : (l + 1 ≡ get_or work (i * c.k + get_or c.tracks i 0) 0 → ⊥) → FirstFrom (unsound c) c.n i i
+    pub refused_here : (l + 1 ≡ get_or work (i * c.k + get_or c.tracks i 0) 0 → ⊥) → FirstFrom (unsound c) c.n i (Some i)
     refused_here n = from_here (unsound c) c.n i in_n (own_test ∙ rw (ne_eqb _ _ n))
 
     pub refused_past : l + 1 ≡ get_or work (i * c.k + get_or c.tracks i 0) 0 → FirstFrom (unsound c) c.n i bad
     refused_past e = from_past (unsound c) c.n i bad s.refused (own_test ∙ rw (eq-eqb _ _ e))
 
-    pub settled_next : (bad' j' : ℕ) → FirstFrom (unsound c) c.n i bad' → j' ≡ pairs_to c.needs i
+    pub settled_next : (bad' : Option ℕ) (j' : ℕ) → FirstFrom (unsound c) c.n i bad' → j' ≡ pairs_to c.needs i
         → RowsSettled c (set work (i * c.k + get_or c.tracks i 0) l) bad' j' i
     settled_next bad' j' f e = record {
       upto = omega (arith, in_n);
@@ -135,8 +135,8 @@ module _ {c : Listing} (a : Accepted c) where
             entry_other work v q i p c.k l m p_in (λ z. n (sym z.0)) ∙ s.settled v q (omega (arith, n)) h m
 
   -- all rows are settled
-  pub settled_all : {work : List ℕ} {bad j i : ℕ} → RowsSettled c work bad j i → i ≡ 0
-      → (bad ≡ first (unsound c) c.n) × (work ≡ built_work c)
+  pub settled_all : {work : List ℕ} {bad : Option ℕ} {j i : ℕ} → RowsSettled c work bad j i → i ≡ 0
+      → (bad ≡ first_found (unsound c) c.n) × (work ≡ built_work c)
   unfolding built_work
   settled_all {work} {bad} {j} {i} s e = (
     from_start (unsound c) c.n bad (rw e at s.refused),

@@ -1,15 +1,14 @@
--- Rows of an area: where they stand, a row that is written entry by entry, and a row that is written twice. Assumes nothing.
+-- Rows of an area: where they stand, the greater of two rows, and a row that is written twice. Assumes nothing.
 use Prim.Native.Nat.{ℕ, ◌+◌, ◌*◌, ◌≤◌, ◌<◌, max}
 use mathlib.Core.Path.{◌≡◌, refl, sym, ap, ◌∙◌}
 use mathlib.Core.List.{List}
-use mathlib.Core.Logic.{◌⊎◌, inl, inr}
+use mathlib.Core.Logic.{inl}
 use native.Mathlib.Omega.{arith}
 use native.Mathlib.Nat.{suc-mul, mul-le-mul_right}
 use native.Mathlib.Decide.{dec_lt}
-use lib.ListN.{length, get_or, set, length-set}
-use lib.Seq.{get_or-set_same, get_or-set_other}
+use lib.ListN.{get_or, set}
+use lib.Seq.{get_or-set_other}
 use lib.Arith.{digits_lt}
-use borrow.Author.Count.{below_none, below_more}
 use Rattle.rows.specs.Rows.{RowIs}
 
 -- ---- where the rows stand
@@ -32,40 +31,10 @@ pub entry_other : (area : List ℕ) (v q i p k x : ℕ) → q < k → p < k → 
     → get_or (set area (i * k + p) x) (v * k + q) 0 ≡ get_or area (v * k + q) 0
 entry_other area v q i p k x a b n = get_or-set_other area (i * k + p) (v * k + q) x 0 (λ e. n (entry_same v q i p k a b e))
 
--- ---- a row that is written entry by entry
-
--- past one entry more of a row is past the row so far
-past_less : (x at q : ℕ) → (x < at) ⊎ (at + (q + 1) ≤ x) → (x < at) ⊎ (at + q ≤ x)
-past_less x at q (inl h) = inl h
-past_less x at q (inr h) = inr (omega arith)
-
-past_not : (x at q : ℕ) → (x < at) ⊎ (at + (q + 1) ≤ x) → x ≡ at + q → ⊥
-past_not x at q (inl h) e = omega arith
-past_not x at q (inr h) e = omega arith
-
--- nothing is written yet
-pub row_start : (area : List ℕ) (at : ℕ) (f : ℕ → ℕ) → RowIs area area at 0 f
-row_start area at f = record { same_length = refl; row = below_none _; kept = λ x h. refl }
-
-module _ {area area' : List ℕ} {at q : ℕ} {f : ℕ → ℕ} (r : RowIs area area' at q f) where
-  -- one entry more is written
-  pub row_write : (v : ℕ) → at + q < length area' → v ≡ f q → RowIs area (set area' (at + q) v) at (q + 1) f
-  row_write v l e = record {
-    same_length = length-set area' (at + q) v ∙ r.same_length;
-    row = below_more _ q (λ x h. get_or-set_other area' (at + q) (at + x) v 0 (λ s. omega arith) ∙ r.row x h)
-        (get_or-set_same area' (at + q) v 0 l ∙ e);
-    kept = λ x h. get_or-set_other area' (at + q) x v 0 (past_not x at q h) ∙ r.kept x (past_less x at q h);
-  }
-
 -- ---- the greater of two rows
 
 abbrev pub joined : List ℕ → ℕ → ℕ → ℕ → ℕ
 joined area at from q = max (get_or area (at + q) 0) (get_or area (from + q) 0)
-
-module _ {area area' : List ℕ} {at q : ℕ} (from : ℕ) (r : RowIs area area' at q (joined area at from)) (before : from + q < at) where
-  pub join_write : (v : ℕ) → at + q < length area' → v ≡ max (get_or area' (at + q) 0) (get_or area' (from + q) 0)
-      → RowIs area (set area' (at + q) v) at (q + 1) (joined area at from)
-  join_write v l h = row_write r v l (omega (arith, r.kept (from + q) (inl before), r.kept (at + q) (inr (omega arith))))
 
 -- ---- whole rows
 

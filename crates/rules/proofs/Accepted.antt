@@ -1,5 +1,6 @@
 -- An accepted listing: what refusals 1 to 5 let through, in plain facts; and that they let through nothing else.
 -- Assumes nothing.
+use Rattle.std.specs.Prelude.{Ok}
 use Prim.Native.Nat.{ℕ, ◌+◌, ◌%◌, ◌≤◌, ◌<◌}
 use mathlib.Core.Path.{◌≡◌, ◌∙◌}
 use mathlib.Core.Bool.{Bool, true, ◌&&◌}
@@ -9,7 +10,6 @@ use lib.ListN.{length, get_or}
 use lib.Dec.{leb, eqb}
 use borrow.Author.Tests.{leb-false, lt-leb, le-leb, leb-true, eqb-true, eqb-false, eq-eqb, ne_eqb}
 use Rattle.rules.specs.declared.Refusal.TheVariants.{OutOfLimits, NoSuchTrack, EmptyTrack}
-use Rattle.rules.specs.declared.Verdict.TheVariants.{Fine}
 use Rattle.rules.specs.Listing.{Listing, size, pairs, within, counted_needs, in_limits, pairs_verdict, refuse_first, listing_verdict}
 use Rattle.rules.specs.Limits.{max_units, max_tracks, max_needs}
 use Rattle.rules.specs.Refusals.{unless, ◌then◌}
@@ -76,7 +76,7 @@ module _ (c : Listing) where
   abbrev pub no_unit : ℕ → Bool
   no_unit q = eqb (size c.tracks q) 0
 
-  pub listing_fine : listing_verdict c ≡ Fine → Accepted c
+  pub listing_fine : listing_verdict c ≡ Ok tt → Accepted c
   unfolding listing_verdict
   listing_fine h = record {
     n_in = limited.n_in;
@@ -89,19 +89,19 @@ module _ (c : Listing) where
     needs_pairs = pairs_fine c.n c.needs d.1;
   }
     where
-      a : (unless (in_limits c) OutOfLimits ≡ Fine) × ((refuse_first no_track c.n (λ i. NoSuchTrack (i + 1)) then refuse_first no_unit c.k EmptyTrack then pairs_verdict c.n c.needs) ≡ Fine)
+      a : (unless (in_limits c) OutOfLimits ≡ Ok tt) × ((refuse_first no_track c.n (λ i. NoSuchTrack (i + 1)) then refuse_first no_unit c.k EmptyTrack then pairs_verdict c.n c.needs) ≡ Ok tt)
       a = then_fine _ _ h
 
-      b : (refuse_first no_track c.n (λ i. NoSuchTrack (i + 1)) ≡ Fine) × ((refuse_first no_unit c.k EmptyTrack then pairs_verdict c.n c.needs) ≡ Fine)
+      b : (refuse_first no_track c.n (λ i. NoSuchTrack (i + 1)) ≡ Ok tt) × ((refuse_first no_unit c.k EmptyTrack then pairs_verdict c.n c.needs) ≡ Ok tt)
       b = then_fine _ _ a.1
 
-      d : (refuse_first no_unit c.k EmptyTrack ≡ Fine) × (pairs_verdict c.n c.needs ≡ Fine)
+      d : (refuse_first no_unit c.k EmptyTrack ≡ Ok tt) × (pairs_verdict c.n c.needs ≡ Ok tt)
       d = then_fine _ _ b.1
 
       limited : WithinLimits c
       limited = limits_in c (unless_fine (in_limits c) OutOfLimits a.0)
 
-  pub fine_listing : Accepted c → listing_verdict c ≡ Fine
+  pub fine_listing : Accepted c → listing_verdict c ≡ Ok tt
   unfolding listing_verdict
   fine_listing a =
       fine_then _ (fine_unless OutOfLimits (in_limits_lem c limited))

@@ -1,11 +1,11 @@
 -- Document 01's six units on the bench: they are accepted, and the proved cases P1 to P12 hold of the calls asked of that build, as one
 -- statement over one table, by computation.
+use Rattle.std.specs.Prelude.{Ok}
 use Prim.Native.Nat.{ℕ}
 use mathlib.Core.Path.{◌≡◌, refl, sym, subst}
 use mathlib.Core.List.{List, [], ◌∷◌, ◌++◌, map}
 use lib.Count.{ones}
 use lib.ListN.{replicate}
-use Rattle.rules.specs.declared.Verdict.TheVariants.{Fine}
 use Rattle.rules.specs.declared.PairTold.{PairTold}
 use Rattle.rules.specs.declared.NumberTold.{NumberTold}
 use Rattle.rules.specs.Ranges.{sum, bit1, count, greatest, smallest, first, some, every, keep, table, rows, over}
@@ -33,14 +33,14 @@ single = record { n = 1; k = 1; tracks = 0 ∷ []; needs = [] }
 
 -- ---- accepted, in areas of just the length that each needs
 
-pub six_accepted : build_verdict six (0 ∷ []) (0 ∷ []) (replicate 12 0) ≡ Fine
+pub six_accepted : build_verdict six (0 ∷ []) (0 ∷ []) (replicate 12 0) ≡ Ok tt
 unfolding build_verdict filled_verdict room_verdict listing_verdict sound_verdict refuse_first first in_limits counted_needs pairs_verdict bad_pair bad_units out_of_order units_above unsound unit_before greatest needs leads some track in_track count word_count room_bits vector_room vector_bits sum
 six_accepted = refl
 
 abbrev pub bench : Build
 bench = record { course = six; words = 0 ∷ []; directory = 0 ∷ []; work = replicate 12 0; accepted = six_accepted }
 
-pub single_accepted : build_verdict single [] [] (0 ∷ []) ≡ Fine
+pub single_accepted : build_verdict single [] [] (0 ∷ []) ≡ Ok tt
 unfolding build_verdict filled_verdict room_verdict listing_verdict sound_verdict refuse_first first in_limits counted_needs pairs_verdict bad_pair bad_units out_of_order units_above unsound unit_before greatest needs leads some track in_track count word_count room_bits vector_room vector_bits sum
 single_accepted = refl
 

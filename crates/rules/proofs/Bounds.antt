@@ -1,5 +1,6 @@
 -- low and high: how they bound what is needed, the row recurrence of low, and what sound tracks add: u needs v exactly when v's position
 -- is at most low(u, track of v), and v is a direct step of u exactly by kind 11's formula. Assumes nothing.
+use Rattle.std.specs.Prelude.{Ok}
 use Prim.Native.Nat.{ℕ, zero, suc, ◌+◌, ◌-◌, ◌≤◌, ◌<◌, zero-le}
 use mathlib.Core.Path.{◌≡◌, refl, sym, ap, ◌∙◌, subst}
 use mathlib.Core.Bool.{true, false, cond, not, ◌&&◌}
@@ -11,7 +12,6 @@ use lib.ListN.{length, get_or}
 use lib.Dec.{leb, ltb, eqb}
 use borrow.Author.Tests.{eq-eqb, ne_eqb, eqb-true, le-leb, leb-true, lt-ltb, ltb-true, not-true, not-false}
 use Rattle.rules.specs.declared.Refusal.TheVariants.{UnsoundTrack}
-use Rattle.rules.specs.declared.Verdict.TheVariants.{Fine}
 use Rattle.rules.specs.Ranges.{greatest, every, some}
 use Rattle.rules.specs.Listing.{Listing, Listed, pairs, upper, lower, track, size, position}
 use Rattle.rules.specs.Order.{needs, step, unit_before, unsound, sound_verdict, low, high}
@@ -199,7 +199,7 @@ module _ (c : Listing) (a : Accepted c) where
   abbrev pub OwnLow : Type 0
   OwnLow = (u : ℕ) → 1 ≤ u → u ≤ c.n → low c u (track c.tracks u) + 1 ≡ position c.tracks u
 
-  pub sound_own : sound_verdict c ≡ Fine → OwnLow
+  pub sound_own : sound_verdict c ≡ Ok tt → OwnLow
   unfolding sound_verdict
   sound_own h u l m =
       let e : u - 1 + 1 ≡ u = omega arith in
@@ -210,7 +210,7 @@ module _ (c : Listing) (a : Accepted c) where
 
 -- ---- with sound tracks
 
-module _ (c : Listing) (a : Accepted c) (sound : sound_verdict c ≡ Fine) where
+module _ (c : Listing) (a : Accepted c) (sound : sound_verdict c ≡ Ok tt) where
   own : (u : ℕ) → 1 ≤ u → u ≤ c.n → low c u (track c.tracks u) + 1 ≡ position c.tracks u
   own = sound_own c a sound
 

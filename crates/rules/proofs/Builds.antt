@@ -1,5 +1,6 @@
 -- An accepted build and the index that it leaves in the areas, however long they are: it is whole, its low and high are the listing's, and
 -- its kinds 10 and 11 are the listing's needs and direct steps. Assumes nothing.
+use Rattle.std.specs.Prelude.{Ok}
 use Prim.Native.Nat.{ℕ, ◌*◌, ◌≤◌, ◌<◌}
 use mathlib.Core.Path.{◌≡◌, sym, ap, ◌∙◌}
 use mathlib.Core.Bool.{true, ◌&&◌}
@@ -9,7 +10,6 @@ use lib.ListN.{length}
 use lib.Dec.{leb}
 use borrow.Author.Tests.{leb-true}
 use Rattle.rules.specs.declared.Refusal.TheVariants.{ShortArea}
-use Rattle.rules.specs.declared.Verdict.TheVariants.{Fine}
 use Rattle.rules.specs.Ranges.{over}
 use Rattle.rules.specs.Listing.{Listing, listing_verdict}
 use Rattle.rules.specs.Order.{needs, step, sound_verdict, low, high}
@@ -30,7 +30,7 @@ pub record Build : Type 0 where
   pub words : List ℕ
   pub directory : List ℕ
   pub work : List ℕ
-  pub accepted : build_verdict course words directory work ≡ Fine
+  pub accepted : build_verdict course words directory work ≡ Ok tt
 
 -- what that build leaves
 abbrev pub outcome_of : Build → BuildOutcome
@@ -41,11 +41,11 @@ abbrev pub index_of : Build → Index
 index_of b = index (outcome_of b).answer.head b.course.tracks (outcome_of b).words (outcome_of b).directory
 
 module _ (b : Build) where
-  pub filled : filled_verdict b.course b.words b.directory b.work ≡ Fine
+  pub filled : filled_verdict b.course b.words b.directory b.work ≡ Ok tt
   unfolding build_verdict
   filled = (then_fine (filled_verdict b.course b.words b.directory b.work) (sound_verdict b.course) b.accepted).0
 
-  pub sound_course : sound_verdict b.course ≡ Fine
+  pub sound_course : sound_verdict b.course ≡ Ok tt
   unfolding build_verdict
   sound_course = (then_fine (filled_verdict b.course b.words b.directory b.work) (sound_verdict b.course) b.accepted).1
 
@@ -54,7 +54,7 @@ module _ (b : Build) where
   accepted_course =
       listing_fine b.course (then_fine (listing_verdict b.course) (room_verdict b.course b.words b.directory b.work) filled).0
 
-  pub room_verdict_lem : room_verdict b.course b.words b.directory b.work ≡ Fine
+  pub room_verdict_lem : room_verdict b.course b.words b.directory b.work ≡ Ok tt
   unfolding filled_verdict
   room_verdict_lem = (then_fine (listing_verdict b.course) (room_verdict b.course b.words b.directory b.work) filled).1
 

@@ -1,6 +1,7 @@
 -- The index that a build gives for a sound, accepted listing: its bits, that it is whole, and that its answers are those of the listing.
 -- Each 1 has one home, the vector of its unit's track and another, so a vector's ones are those of the units of one track; their lows rise
 -- along it, so the vector reads as those lows, and low and high and the questions follow. Assumes nothing.
+use Rattle.std.specs.Prelude.{Ok}
 use Prim.Native.Nat.{ℕ, ◌+◌, ◌-◌, ◌*◌, ◌/◌, ◌%◌, ◌^◌, ◌≤◌, ◌<◌}
 use mathlib.Core.Path.{◌≡◌, refl, sym, ap, ◌∙◌, subst}
 use mathlib.Core.Bool.{Bool, true, false, not, ◌&&◌}
@@ -12,7 +13,6 @@ use lib.ListN.{length, get_or, get_or-eq_default}
 use lib.Pow.{pow_pos}
 use lib.Dec.{leb, ltb, eqb}
 use borrow.Author.Tests.{le-leb, leb-true, eq-eqb, ne_eqb, eqb-true, eqb-false, not-true}
-use Rattle.rules.specs.declared.Verdict.TheVariants.{Fine}
 use Rattle.rules.specs.Ranges.{sum, some}
 use Rattle.rules.specs.Listing.{Listing, track, size, position}
 use Rattle.rules.specs.Order.{needs, step, sound_verdict, low, high}
@@ -221,7 +221,7 @@ module _ (c : Listing) (a : Accepted c) where
               omega (arith, o.at, ap (one_at c o.unit) d, one_at_lem o.unit q e refl, lows_at o.unit o.from o.to e refl),
             )
 
-    rises : sound_verdict c ≡ Fine → (i j : ℕ) → 1 ≤ i → i < j → j ≤ size c.tracks p → lows c p q i ≤ lows c p q j
+    rises : sound_verdict c ≡ Ok tt → (i j : ℕ) → 1 ≤ i → i < j → j ≤ size c.tracks p → lows c p q i ≤ lows c p q j
     rises sound i j from up to = go (unit_found c.tracks p i from (omega arith)) (unit_found c.tracks p j (omega arith) to)
       where
         go : UnitAt c.tracks p i → UnitAt c.tracks p j → lows c p q i ≤ lows c p q j
@@ -267,7 +267,7 @@ module _ (c : Listing) (a : Accepted c) where
       let few : word_count (size c.tracks) c.k ≤ 992 = words_most (size c.tracks) c.k (omega (arith, units_built, a.n_in)) (omega (arith, a.k_in)) in
       omega (arith, ones_before_le (built_words c) (words_built c) (built_count c))
 
-module _ (c : Listing) (a : Accepted c) (sound : sound_verdict c ≡ Fine) where
+module _ (c : Listing) (a : Accepted c) (sound : sound_verdict c ≡ Ok tt) where
   -- so the vector reads as the lows of the units of p
   pub vector_built : (p q : ℕ) → p < c.k → q < c.k → (p ≡ q → ⊥)
       → FromLow (vector (built_index c) p q) (lows c p q) (sizes (built_index c) p) (sizes (built_index c) q)

@@ -1,5 +1,6 @@
 -- The cases of document 01's table of refusals in its own words, as propositions; below them, that the check for each tells exactly its case.
 -- Assumes nothing.
+use Rattle.std.specs.Prelude.{Ok, Err}
 use Prim.Native.Nat.{ℕ, suc, ◌+◌, ◌-◌, ◌*◌, ◌%◌, ◌≤◌, ◌<◌}
 use mathlib.Core.Path.{◌≡◌, refl, sym, ap, ◌∙◌}
 use mathlib.Core.Bool.{Bool, true, false, cond, not, ◌&&◌}
@@ -14,12 +15,8 @@ use lib.Dec.{leb, ltb, eqb}
 use borrow.Author.Tests.{ltb-true, lt-ltb, leb-true, leb-false, le-leb, lt-leb, eqb-true, eqb-false, eq-eqb, ne_eqb, not-true}
 use Rattle.rules.specs.declared.Refusal.{Refusal}
 use Rattle.rules.specs.declared.Refusal.TheVariants.{OutOfLimits, NoSuchTrack, EmptyTrack, BadPair, PairOrder, ShortArea, UnsoundTrack, BadArgument, ShortList}
-use Rattle.rules.specs.declared.Verdict.{Verdict}
-use Rattle.rules.specs.declared.Verdict.TheVariants.{Fine, Refused}
-use Rattle.rules.specs.declared.PairAnswer.TheVariants as pair
-use Rattle.rules.specs.declared.NumberAnswer.TheVariants as number
 use Rattle.rules.specs.Limits.{max_needs}
-use Rattle.rules.specs.Refusals.{number_of, place_of, unless}
+use Rattle.rules.specs.Refusals.{number_of, place_of, unless, Verdict}
 use Rattle.rules.specs.Listing.{Listing, track, size, pairs, upper, lower, within, refuse_first, counted_needs, in_limits, bad_units, bad_pair, units_above, out_of_order, pairs_verdict}
 use Rattle.rules.specs.Order.{Needs, needs, unit_before, unsound, sound_verdict}
 use Rattle.rules.specs.Index.{built_count}
@@ -97,10 +94,10 @@ module _ (c : Listing) where
       (and_fails (and_fails (and_fails (within_fails 1024 c.n) (within_fails 32 c.k)) (counted_fails c.needs)) (eqb_fails (length c.tracks) c.n))
       (Iff.trans sum_assoc sum_assoc)
 
-  pub limits_at : (unless (in_limits c) OutOfLimits ≡ Refused OutOfLimits) ↔ Outside c
+  pub limits_at : (unless (in_limits c) OutOfLimits ≡ Err OutOfLimits) ↔ Outside c
   limits_at = unless_at OutOfLimits limits_fails
 
-  pub limits_clear : (unless (in_limits c) OutOfLimits ≡ Fine) ↔ (Outside c → ⊥)
+  pub limits_clear : (unless (in_limits c) OutOfLimits ≡ Ok tt) ↔ (Outside c → ⊥)
   limits_clear = unless_clear OutOfLimits limits_fails
 
   pub limits_never : {r : Refusal} → (number_of r ≡ 1 → ⊥) → Never (unless (in_limits c) OutOfLimits) r
@@ -114,10 +111,10 @@ module _ (c : Listing) where
     (λ h. (omega (arith, h.1), le-leb _ _ (rw (track-next c.tracks i) at h.2))),
   )
 
-  pub tracks_at : (u : ℕ) → (refuse_first (no_track c) c.n (λ i. NoSuchTrack (i + 1)) ≡ Refused (NoSuchTrack u)) ↔ Smallest (NoTrack c) u
+  pub tracks_at : (u : ℕ) → (refuse_first (no_track c) c.n (λ i. NoSuchTrack (i + 1)) ≡ Err (NoSuchTrack u)) ↔ Smallest (NoTrack c) u
   tracks_at = first_at (no_track c) c.n 1 NoSuchTrack (λ i. refl) (NoTrack c) (λ u h. h.0) track_tells (λ u. refl)
 
-  pub tracks_clear : (refuse_first (no_track c) c.n (λ i. NoSuchTrack (i + 1)) ≡ Fine) ↔ None (NoTrack c)
+  pub tracks_clear : (refuse_first (no_track c) c.n (λ i. NoSuchTrack (i + 1)) ≡ Ok tt) ↔ None (NoTrack c)
   tracks_clear = first_clear (no_track c) c.n 1 NoSuchTrack (λ i. refl) (NoTrack c) (λ u h. h.0) track_tells
 
   pub tracks_never : {r : Refusal} → (number_of r ≡ 2 → ⊥) → Never (refuse_first (no_track c) c.n (λ i. NoSuchTrack (i + 1))) r
@@ -128,7 +125,7 @@ module _ (c : Listing) where
   pub units_never : {r : Refusal} → (number_of r ≡ 3 → ⊥) → Never (refuse_first (no_unit c) c.k EmptyTrack) r
   units_never n = zero_never (no_unit c) c.k EmptyTrack (λ i e. n (sym e))
 
-  pub long_list : unless (in_limits c) OutOfLimits ≡ Fine → length c.tracks ≡ c.n
+  pub long_list : unless (in_limits c) OutOfLimits ≡ Ok tt → length c.tracks ≡ c.n
   long_list h = (limits_in c (unless_fine (in_limits c) OutOfLimits h)).tracks_long
 
   -- where the track list is n long
@@ -143,10 +140,10 @@ module _ (c : Listing) where
         used : NoUnit c q → UnitAt c.tracks q 1 → ⊥
         used h w = h.1 w.unit w.from (omega (arith, w.to)) w.in_q
 
-    pub units_at : (q : ℕ) → (refuse_first (no_unit c) c.k EmptyTrack ≡ Refused (EmptyTrack q)) ↔ Smallest (NoUnit c) q
+    pub units_at : (q : ℕ) → (refuse_first (no_unit c) c.k EmptyTrack ≡ Err (EmptyTrack q)) ↔ Smallest (NoUnit c) q
     units_at = zero_at (no_unit c) c.k EmptyTrack (NoUnit c) unit_tells (λ i. refl)
 
-    pub units_clear : (refuse_first (no_unit c) c.k EmptyTrack ≡ Fine) ↔ None (NoUnit c)
+    pub units_clear : (refuse_first (no_unit c) c.k EmptyTrack ≡ Ok tt) ↔ None (NoUnit c)
     units_clear = zero_clear (no_unit c) c.k EmptyTrack (NoUnit c) unit_tells
 
 -- ---- 4 and 5: the need list
@@ -170,20 +167,20 @@ order_tells l i = (
 
 -- refusals 4 and 5, of a need list over the units 1 to n
 module _ (n : ℕ) (l : List ℕ) where
-  bad_clear : (refuse_first (bad_pair n l) (pairs l) BadPair ≡ Fine) ↔ None (WrongPair n l)
+  bad_clear : (refuse_first (bad_pair n l) (pairs l) BadPair ≡ Ok tt) ↔ None (WrongPair n l)
   bad_clear = zero_clear (bad_pair n l) (pairs l) BadPair (WrongPair n l) (bad_tells n l)
 
-  pub pairs_4 : (i : ℕ) → (pairs_verdict n l ≡ Refused (BadPair i)) ↔ Smallest (WrongPair n l) i
+  pub pairs_4 : (i : ℕ) → (pairs_verdict n l ≡ Err (BadPair i)) ↔ Smallest (WrongPair n l) i
   unfolding pairs_verdict
   pairs_4 i = here (zero_never (out_of_order l) (pairs l) PairOrder (λ j e. omega arith))
       (zero_at (bad_pair n l) (pairs l) BadPair (WrongPair n l) (bad_tells n l) (λ j. refl) i)
 
-  pub pairs_5 : (i : ℕ) → (pairs_verdict n l ≡ Refused (PairOrder i)) ↔ (None (WrongPair n l) × Smallest (NotAbove l) i)
+  pub pairs_5 : (i : ℕ) → (pairs_verdict n l ≡ Err (PairOrder i)) ↔ (None (WrongPair n l) × Smallest (NotAbove l) i)
   unfolding pairs_verdict
   pairs_5 i = after (zero_never (bad_pair n l) (pairs l) BadPair (λ j e. omega arith)) bad_clear
       (λ f. zero_at (out_of_order l) (pairs l) PairOrder (NotAbove l) (order_tells l) (λ j. refl) i)
 
-  pub pairs_clear : (pairs_verdict n l ≡ Fine) ↔ (None (WrongPair n l) × None (NotAbove l))
+  pub pairs_clear : (pairs_verdict n l ≡ Ok tt) ↔ (None (WrongPair n l) × None (NotAbove l))
   unfolding pairs_verdict
   pairs_clear = both_fine bad_clear (λ f. zero_clear (out_of_order l) (pairs l) PairOrder (NotAbove l) (order_tells l))
 
@@ -208,11 +205,11 @@ module _ (c : Listing) (words directory work : List ℕ) where
   unfolding room_verdict
   room_never n = unless_never room_test ShortArea (λ e. n (sym e))
 
-  pub room_at : (room_verdict c words directory work ≡ Refused ShortArea) ↔ NoRoom c words directory work
+  pub room_at : (room_verdict c words directory work ≡ Err ShortArea) ↔ NoRoom c words directory work
   unfolding room_verdict
   room_at = unless_at ShortArea room_fails
 
-  pub room_clear : (room_verdict c words directory work ≡ Fine) ↔ (NoRoom c words directory work → ⊥)
+  pub room_clear : (room_verdict c words directory work ≡ Ok tt) ↔ (NoRoom c words directory work → ⊥)
   unfolding room_verdict
   room_clear = unless_clear ShortArea room_fails
 
@@ -282,24 +279,24 @@ module _ (c : Listing) where
   unfolding sound_verdict
   sound_never n = first_never (unsound c) c.n 1 UnsoundTrack (λ i. refl) (λ i e. n (sym e))
 
-  pub sound_at : Descending c.needs → (u : ℕ) → (sound_verdict c ≡ Refused (UnsoundTrack u)) ↔ Smallest (Unsound c) u
+  pub sound_at : Descending c.needs → (u : ℕ) → (sound_verdict c ≡ Err (UnsoundTrack u)) ↔ Smallest (Unsound c) u
   unfolding sound_verdict
   sound_at down = first_at (unsound c) c.n 1 UnsoundTrack (λ i. refl) (Unsound c) (λ u h. h.0) (unsound_tells down) (λ u. refl)
 
-  pub sound_clear : Descending c.needs → (sound_verdict c ≡ Fine) ↔ None (Unsound c)
+  pub sound_clear : Descending c.needs → (sound_verdict c ≡ Ok tt) ↔ None (Unsound c)
   unfolding sound_verdict
   sound_clear down = first_clear (unsound c) c.n 1 UnsoundTrack (λ i. refl) (Unsound c) (λ u h. h.0) (unsound_tells down)
 
 -- ---- 8: an argument
 
 module _ {b : Bool} {P : Type 0} (which : ℕ) (f : Fails b P) where
-  pub argument_at : (w : ℕ) → (unless b (BadArgument which) ≡ Refused (BadArgument w)) ↔ ((w ≡ which) × P)
+  pub argument_at : (w : ℕ) → (unless b (BadArgument which) ≡ Err (BadArgument w)) ↔ ((w ≡ which) × P)
   argument_at w = (
     (λ h. let r = (unless-refused (BadArgument which) f (BadArgument w)).0 h in (ap place_of r.0, r.1)),
     (λ h. (unless-refused (BadArgument which) f (BadArgument w)).1 (ap BadArgument h.0, h.1)),
   )
 
-  pub argument_clear : (unless b (BadArgument which) ≡ Fine) ↔ (P → ⊥)
+  pub argument_clear : (unless b (BadArgument which) ≡ Ok tt) ↔ (P → ⊥)
   argument_clear = unless_clear (BadArgument which) f
 
   pub argument_never : {r : Refusal} → (number_of r ≡ 8 → ⊥) → Never (unless b (BadArgument which)) r
@@ -319,14 +316,14 @@ place_fails units list at = (λ h. to (leb-false _ _ h) (dec_lt (length list) at
     from (inr l) = omega arith
 
 module _ (units list : List ℕ) (at : ℕ) where
-  pub place_at : (count : ℕ) → (list_room units list at ≡ Refused (ShortList count)) ↔ ((count ≡ length units) × NoPlace units list at)
+  pub place_at : (count : ℕ) → (list_room units list at ≡ Err (ShortList count)) ↔ ((count ≡ length units) × NoPlace units list at)
   unfolding list_room
   place_at count = (
     (λ h. let r = (unless-refused (ShortList (length units)) (place_fails units list at) (ShortList count)).0 h in (ap place_of r.0, r.1)),
     (λ h. (unless-refused (ShortList (length units)) (place_fails units list at) (ShortList count)).1 (ap ShortList h.0, h.1)),
   )
 
-  pub place_clear : (list_room units list at ≡ Fine) ↔ (NoPlace units list at → ⊥)
+  pub place_clear : (list_room units list at ≡ Ok tt) ↔ (NoPlace units list at → ⊥)
   unfolding list_room
   place_clear = unless_clear (ShortList (length units)) (place_fails units list at)
 
@@ -336,48 +333,48 @@ module _ (units list : List ℕ) (at : ℕ) where
 
 -- ---- what an answer tells of the verdict behind it
 
-pub pair_refused : (v : Verdict) (t : Bool) (r : Refusal) → (pair_answer v t ≡ pair.Refused r) ↔ (v ≡ Refused r)
+pub pair_refused : (v : Verdict) (t : Bool) (r : Refusal) → (pair_answer v t ≡ Err r) ↔ (v ≡ Err r)
 pair_refused v t r = (to v t, λ e. rw e)
   where
-    to : (v : Verdict) (t : Bool) → pair_answer v t ≡ pair.Refused r → v ≡ Refused r
-    to Fine true h = absurd (let z : ◌≡◌ {A = ℕ} 0 1 = cc in omega arith)
-    to Fine false h = absurd (let z : ◌≡◌ {A = ℕ} 0 1 = cc in omega arith)
-    to (Refused s) t h = let e : s ≡ r = cc in ap Refused e
+    to : (v : Verdict) (t : Bool) → pair_answer v t ≡ Err r → v ≡ Err r
+    to (Ok _) true h = absurd (let z : ◌≡◌ {A = ℕ} 0 1 = cc in omega arith)
+    to (Ok _) false h = absurd (let z : ◌≡◌ {A = ℕ} 0 1 = cc in omega arith)
+    to (Err s) t h = let e : s ≡ r = cc in ap Err e
 
-pub pair_given : (v : Verdict) (t : Bool) → (pair_answer v t ≡ yes_or_no t) ↔ (v ≡ Fine)
+pub pair_given : (v : Verdict) (t : Bool) → (pair_answer v t ≡ yes_or_no t) ↔ (v ≡ Ok tt)
 pair_given v t = (to v t, λ e. rw e)
   where
-    to : (v : Verdict) (t : Bool) → pair_answer v t ≡ yes_or_no t → v ≡ Fine
-    to Fine t h = refl
-    to (Refused s) true h = absurd (let z : ◌≡◌ {A = ℕ} 0 1 = cc in omega arith)
-    to (Refused s) false h = absurd (let z : ◌≡◌ {A = ℕ} 0 1 = cc in omega arith)
+    to : (v : Verdict) (t : Bool) → pair_answer v t ≡ yes_or_no t → v ≡ Ok tt
+    to (Ok _) t h = refl
+    to (Err s) true h = absurd (let z : ◌≡◌ {A = ℕ} 0 1 = cc in omega arith)
+    to (Err s) false h = absurd (let z : ◌≡◌ {A = ℕ} 0 1 = cc in omega arith)
 
-pub number_refused : (v : Verdict) (m : ℕ) (r : Refusal) → (number_answer v m ≡ number.Refused r) ↔ (v ≡ Refused r)
+pub number_refused : (v : Verdict) (m : ℕ) (r : Refusal) → (number_answer v m ≡ Err r) ↔ (v ≡ Err r)
 number_refused v m r = (to v, λ e. rw e)
   where
-    to : (v : Verdict) → number_answer v m ≡ number.Refused r → v ≡ Refused r
-    to Fine h = absurd (let z : ◌≡◌ {A = ℕ} 0 1 = cc in omega arith)
-    to (Refused s) h = let e : s ≡ r = cc in ap Refused e
+    to : (v : Verdict) → number_answer v m ≡ Err r → v ≡ Err r
+    to (Ok _) h = absurd (let z : ◌≡◌ {A = ℕ} 0 1 = cc in omega arith)
+    to (Err s) h = let e : s ≡ r = cc in ap Err e
 
-pub number_given : (v : Verdict) (m : ℕ) → (number_answer v m ≡ number.Number m) ↔ (v ≡ Fine)
+pub number_given : (v : Verdict) (m : ℕ) → (number_answer v m ≡ Ok m) ↔ (v ≡ Ok tt)
 number_given v m = (to v, λ e. rw e)
   where
-    to : (v : Verdict) → number_answer v m ≡ number.Number m → v ≡ Fine
-    to Fine h = refl
-    to (Refused s) h = absurd (let z : ◌≡◌ {A = ℕ} 0 1 = cc in omega arith)
+    to : (v : Verdict) → number_answer v m ≡ Ok m → v ≡ Ok tt
+    to (Ok _) h = refl
+    to (Err s) h = absurd (let z : ◌≡◌ {A = ℕ} 0 1 = cc in omega arith)
 
 -- the outcome of a refused list: the lent list as it was
 abbrev pub kept_list : Refusal → List ℕ → ListOutcome
-kept_list r list = record { answer = number.Refused r; list = list }
+kept_list r list = record { answer = Err r; list = list }
 
 -- and of an answered one: its count, and the units from the named place on
 abbrev pub given_list : List ℕ → List ℕ → ℕ → ListOutcome
-given_list units list at = record { answer = number.Number (length units); list = written_from list at units }
+given_list units list at = record { answer = Ok (length units); list = written_from list at units }
 
-pub list_refused : (v : Verdict) (units list : List ℕ) (at : ℕ) (r : Refusal) → (list_answer v units list at ≡ kept_list r list) ↔ (v ≡ Refused r)
+pub list_refused : (v : Verdict) (units list : List ℕ) (at : ℕ) (r : Refusal) → (list_answer v units list at ≡ kept_list r list) ↔ (v ≡ Err r)
 unfolding list_answer
 list_refused v units list at r = (λ h. (number_refused v (length units) r).0 (ap (λ (o : ListOutcome). o.answer) h), λ e. rw e)
 
-pub list_given : (v : Verdict) (units list : List ℕ) (at : ℕ) → (list_answer v units list at ≡ given_list units list at) ↔ (v ≡ Fine)
+pub list_given : (v : Verdict) (units list : List ℕ) (at : ℕ) → (list_answer v units list at ≡ given_list units list at) ↔ (v ≡ Ok tt)
 unfolding list_answer
 list_given v units list at = (λ h. (number_given v (length units)).0 (ap (λ (o : ListOutcome). o.answer) h), λ e. rw e)

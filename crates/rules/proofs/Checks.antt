@@ -1,5 +1,6 @@
 -- Checks as equivalences: a test that fails exactly in a case, the first bad number, one check after another. Each law says both directions.
 -- Assumes nothing.
+use Rattle.std.specs.Prelude.{Ok, Err}
 use Prim.Native.Nat.{ℕ, ◌+◌, ◌-◌, ◌≤◌, ◌<◌, zero-le}
 use mathlib.Core.Path.{◌≡◌, refl, sym, ap, ◌∙◌, subst}
 use mathlib.Core.Bool.{Bool, true, false, ◌&&◌}
@@ -10,9 +11,7 @@ use native.Mathlib.Decide.{dec_lt}
 use lib.Dec.{leb, ltb, eqb}
 use borrow.Author.Tests.{ltb-false, le-ltb, leb-false, lt-leb, eqb-false, ne_eqb}
 use Rattle.rules.specs.declared.Refusal.{Refusal}
-use Rattle.rules.specs.declared.Verdict.{Verdict}
-use Rattle.rules.specs.declared.Verdict.TheVariants.{Fine, Refused}
-use Rattle.rules.specs.Refusals.{number_of, place_of, unless, ◌then◌}
+use Rattle.rules.specs.Refusals.{number_of, place_of, unless, ◌then◌, Verdict}
 use Rattle.rules.specs.Ranges.{first}
 use Rattle.rules.specs.Listing.{within, refuse_first}
 use Rattle.rules.proofs.Ranges.{true_or_false, not_both, first_met, first_before}
@@ -94,50 +93,50 @@ flat_left = (λ h. (h.0.0, h.0.1, h.1), λ h. ((h.0, h.1), h.2))
 -- ---- one check after another
 
 -- the first refusal stands
-pub then_refused : (a b : Verdict) (r : Refusal) → ((a then b) ≡ Refused r) ↔ ((a ≡ Refused r) ⊎ ((a ≡ Fine) × (b ≡ Refused r)))
+pub then_refused : (a b : Verdict) (r : Refusal) → ((a then b) ≡ Err r) ↔ ((a ≡ Err r) ⊎ ((a ≡ Ok tt) × (b ≡ Err r)))
 then_refused a b r = (to a, from)
   where
-    to : (a : Verdict) → (a then b) ≡ Refused r → (a ≡ Refused r) ⊎ ((a ≡ Fine) × (b ≡ Refused r))
-    to Fine h = inr (refl, h)
-    to (Refused s) h = inl h
+    to : (a : Verdict) → (a then b) ≡ Err r → (a ≡ Err r) ⊎ ((a ≡ Ok tt) × (b ≡ Err r))
+    to (Ok _) h = inr (refl, h)
+    to (Err s) h = inl h
 
-    from : (a ≡ Refused r) ⊎ ((a ≡ Fine) × (b ≡ Refused r)) → (a then b) ≡ Refused r
+    from : (a ≡ Err r) ⊎ ((a ≡ Ok tt) × (b ≡ Err r)) → (a then b) ≡ Err r
     from (inl h) = refused_then b h
     from (inr h) = fine_then b h.0 ∙ h.1
 
-pub refused_same : {r s : Refusal} → Refused r ≡ Refused s → r ≡ s
+pub refused_same : {r s : Refusal} → ◌≡◌ {A = Verdict} (Err r) (Err s) → r ≡ s
 refused_same h = cc
 
 -- the refusal is not one of this check's
 abbrev pub Never : Verdict → Refusal → Type 0
-Never v r = v ≡ Refused r → ⊥
+Never v r = v ≡ Err r → ⊥
 
 module _ {a b : Verdict} {r : Refusal} where
   pub then_never : Never a r → Never b r → Never (a then b) r
   then_never m n h = go ((then_refused a b r).0 h)
     where
-      go : (a ≡ Refused r) ⊎ ((a ≡ Fine) × (b ≡ Refused r)) → ⊥
+      go : (a ≡ Err r) ⊎ ((a ≡ Ok tt) × (b ≡ Err r)) → ⊥
       go (inl e) = m e
       go (inr e) = n e.1
 
   -- it comes from the first check
-  pub here : {A : Type 0} → Never b r → (a ≡ Refused r) ↔ A → ((a then b) ≡ Refused r) ↔ A
+  pub here : {A : Type 0} → Never b r → (a ≡ Err r) ↔ A → ((a then b) ≡ Err r) ↔ A
   here {A} n i = (λ h. go ((then_refused a b r).0 h), λ x. refused_then b (i.1 x))
     where
-      go : (a ≡ Refused r) ⊎ ((a ≡ Fine) × (b ≡ Refused r)) → A
+      go : (a ≡ Err r) ⊎ ((a ≡ Ok tt) × (b ≡ Err r)) → A
       go (inl e) = i.0 e
       go (inr e) = absurd (n e.1)
 
   -- it comes from the second check, where the first is Fine
-  pub after : {A B : Type 0} → Never a r → (a ≡ Fine) ↔ A → (a ≡ Fine → (b ≡ Refused r) ↔ B) → ((a then b) ≡ Refused r) ↔ (A × B)
+  pub after : {A B : Type 0} → Never a r → (a ≡ Ok tt) ↔ A → (a ≡ Ok tt → (b ≡ Err r) ↔ B) → ((a then b) ≡ Err r) ↔ (A × B)
   after {A} {B} n f i = (λ h. go ((then_refused a b r).0 h), λ x. fine_then b (f.1 x.0) ∙ (i (f.1 x.0)).1 x.1)
     where
-      go : (a ≡ Refused r) ⊎ ((a ≡ Fine) × (b ≡ Refused r)) → A × B
+      go : (a ≡ Err r) ⊎ ((a ≡ Ok tt) × (b ≡ Err r)) → A × B
       go (inl e) = absurd (n e)
       go (inr e) = (f.0 e.0, (i e.0).0 e.1)
 
 -- both are Fine
-pub both_fine : {a b : Verdict} {A B : Type 0} → (a ≡ Fine) ↔ A → (a ≡ Fine → (b ≡ Fine) ↔ B) → ((a then b) ≡ Fine) ↔ (A × B)
+pub both_fine : {a b : Verdict} {A B : Type 0} → (a ≡ Ok tt) ↔ A → (a ≡ Ok tt → (b ≡ Ok tt) ↔ B) → ((a then b) ≡ Ok tt) ↔ (A × B)
 both_fine {a} {b} f g = (
   (λ h. let e = then_fine a b h in (f.0 e.0, (g e.0).0 e.1)),
   (λ x. fine_then b (f.1 x.0) ∙ (g (f.1 x.0)).1 x.1),
@@ -145,17 +144,17 @@ both_fine {a} {b} f g = (
 
 -- a check by one test
 module _ {b : Bool} {P : Type 0} (R : Refusal) (f : Fails b P) where
-  pub unless-refused : (r : Refusal) → (unless b R ≡ Refused r) ↔ ((r ≡ R) × P)
-  unless-refused r = (λ h. to (true_or_false b) h, λ x. refused-unless R (f.1 x.1) ∙ ap Refused (sym x.0))
+  pub unless-refused : (r : Refusal) → (unless b R ≡ Err r) ↔ ((r ≡ R) × P)
+  unless-refused r = (λ h. to (true_or_false b) h, λ x. refused-unless R (f.1 x.1) ∙ ap Err (sym x.0))
     where
-      to : (b ≡ true) ⊎ (b ≡ false) → unless b R ≡ Refused r → (r ≡ R) × P
+      to : (b ≡ true) ⊎ (b ≡ false) → unless b R ≡ Err r → (r ≡ R) × P
       to (inl t) h = absurd (refused_fine (sym h ∙ fine_unless R t))
       to (inr e) h = (refused_same (sym h ∙ refused-unless R e), f.0 e)
 
-  pub unless_at : (unless b R ≡ Refused R) ↔ P
+  pub unless_at : (unless b R ≡ Err R) ↔ P
   unless_at = (λ h. ((unless-refused R).0 h).1, λ p. (unless-refused R).1 (refl, p))
 
-  pub unless_clear : (unless b R ≡ Fine) ↔ (P → ⊥)
+  pub unless_clear : (unless b R ≡ Ok tt) ↔ (P → ⊥)
   unless_clear = (λ h. (passes f).0 (unless_fine b R h), λ n. fine_unless R ((passes f).1 n))
 
 pub unless_never : (b : Bool) (R : Refusal) {r : Refusal} → (number_of R ≡ number_of r → ⊥) → Never (unless b R) r
@@ -179,7 +178,7 @@ module _ (bad : ℕ → Bool) (m start : ℕ) {R' : ℕ → Refusal} (R : ℕ �
         let e : u - start + start ≡ u = omega arith in
         (tells (u - start)).1 (rw e p)
 
-    pub first_at : ((u : ℕ) → place_of (R u) ≡ u) → (u : ℕ) → (refuse_first bad m R' ≡ Refused (R u)) ↔ Smallest P u
+    pub first_at : ((u : ℕ) → place_of (R u) ≡ u) → (u : ℕ) → (refuse_first bad m R' ≡ Err (R u)) ↔ Smallest P u
     first_at place u = (λ h. to h (dec_lt (first bad m) m), back)
       where
         found : first bad m < m → Smallest P (first bad m + start)
@@ -188,18 +187,18 @@ module _ (bad : ℕ → Bool) (m start : ℕ) {R' : ℕ → Refusal} (R : ℕ �
           none_below = λ j b p. let s = from j p in not_both (at_place j p).1 (first_before bad m (j - start) (omega arith));
         }
 
-        to : refuse_first bad m R' ≡ Refused (R u) → Dec (first bad m < m) → Smallest P u
+        to : refuse_first bad m R' ≡ Err (R u) → Dec (first bad m < m) → Smallest P u
         to h (yes l) =
             let e : R (first bad m + start) ≡ R u = sym (same (first bad m)) ∙ refused_same (sym (refuse_at bad m R' (first bad m) refl l) ∙ h) in
             subst (Smallest P) (sym (place (first bad m + start)) ∙ ap place_of e ∙ place u) (found l)
         to h (no l) = absurd (refused_fine (sym h ∙ refuse_end bad m R' (first bad m) refl (omega arith)))
 
-        back : Smallest P u → refuse_first bad m R' ≡ Refused (R u)
+        back : Smallest P u → refuse_first bad m R' ≡ Err (R u)
         back s =
             let a = at_place u s.holds in
             let f = from u s.holds in
             let e : u - start + start ≡ u = omega arith in
-            refuse_one bad m R' (u - start) a.0 (λ j l. before j l (true_or_false (bad j))) a.1 ∙ ap Refused (same (u - start) ∙ ap R e)
+            refuse_one bad m R' (u - start) a.0 (λ j l. before j l (true_or_false (bad j))) a.1 ∙ ap Err (same (u - start) ∙ ap R e)
           where
             before : (j : ℕ) → j < u - start → (bad j ≡ true) ⊎ (bad j ≡ false) → bad j ≡ false
             before j l (inl t) =
@@ -207,7 +206,7 @@ module _ (bad : ℕ → Bool) (m start : ℕ) {R' : ℕ → Refusal} (R : ℕ �
                 absurd (s.none_below (j + start) (omega arith) ((tells j).0 (omega arith, t)))
             before j l (inr t) = t
 
-    pub first_clear : (refuse_first bad m R' ≡ Fine) ↔ None P
+    pub first_clear : (refuse_first bad m R' ≡ Ok tt) ↔ None P
     first_clear = (
       (λ h u p. let a = at_place u p in not_both a.1 (refuse_fine bad m R' h (u - start) a.0)),
       (λ n. refuse_none bad m R' (λ i l. clear n i l (true_or_false (bad i)))),
@@ -223,8 +222,8 @@ module _ (bad : ℕ → Bool) (m : ℕ) (R : ℕ → Refusal) where
   zero_never = first_never bad m 0 R (λ i. ap R (sym (add-zero i)))
 
   module _ (P : ℕ → Type 0) (tells : (i : ℕ) → ((i < m) × (bad i ≡ true)) ↔ P i) where
-    pub zero_at : ((i : ℕ) → place_of (R i) ≡ i) → (i : ℕ) → (refuse_first bad m R ≡ Refused (R i)) ↔ Smallest P i
+    pub zero_at : ((i : ℕ) → place_of (R i) ≡ i) → (i : ℕ) → (refuse_first bad m R ≡ Err (R i)) ↔ Smallest P i
     zero_at = first_at bad m 0 R (λ i. ap R (sym (add-zero i))) P (λ i p. zero-le) (λ i. rw (add-zero i) (tells i))
 
-    pub zero_clear : (refuse_first bad m R ≡ Fine) ↔ None P
+    pub zero_clear : (refuse_first bad m R ≡ Ok tt) ↔ None P
     zero_clear = first_clear bad m 0 R (λ i. ap R (sym (add-zero i))) P (λ i p. zero-le) (λ i. rw (add-zero i) (tells i))

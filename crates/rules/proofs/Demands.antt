@@ -1,6 +1,7 @@
 -- The second and the third demand, sentence by sentence. They speak of what the contracts of `build` and `questions` state: an accepted
 -- build (Build), the index that a caller then holds (index_of), and the outcomes of the questions asked of it, in document 01's numbers.
 -- Assumes nothing.
+use Rattle.std.specs.Prelude.{Ok, Err}
 use Prim.Native.Nat.{ℕ, suc, ◌+◌, ◌-◌, ◌*◌, ◌≤◌, ◌<◌}
 use mathlib.Core.Path.{◌≡◌, refl, sym, ap, ◌∙◌}
 use mathlib.Core.Bool.{Bool, true, ◌&&◌}
@@ -13,18 +14,15 @@ use lib.ListN.{length, get_or}
 use lib.Dec.{leb}
 use borrow.Author.Tests.{le-leb, leb-true}
 use Rattle.rules.specs.declared.Refusal.TheVariants.{NotWhole, BadArgument}
-use Rattle.rules.specs.declared.Verdict.{Verdict}
-use Rattle.rules.specs.declared.Verdict.TheVariants.{Fine, Refused}
 use Rattle.rules.specs.declared.PairTold.{PairTold}
 use Rattle.rules.specs.declared.NumberTold.{NumberTold}
-use Rattle.rules.specs.Refusals.{unless, ◌then◌}
+use Rattle.rules.specs.Refusals.{unless, ◌then◌, Verdict}
 use Rattle.rules.specs.Ranges.{count}
 use Rattle.rules.specs.Listing.{Listing, listing, Listed, within}
 use Rattle.rules.specs.Order.{Needs, DirectStep, Stage, needs, step, stage, direct_steps, sound_verdict, low, high}
 use Rattle.rules.specs.Index.{built_head, built_bits}
 use Rattle.rules.specs.Questions.{kind10, kind11, kind16, kind17, kind18, units_where, unit_at}
-use Rattle.rules.specs.Outcomes.{room_verdict, filled_verdict, build_verdict, build_outcome, whole_verdict, pair_answer, pair_outcome, unit_outcome, bound_outcome, ListOutcome, list_room, list_answer, list_outcome}
-use Rattle.rules.specs.Outcomes.{needs_outcome, is_step_outcome, needed_outcome, needing_outcome, steps_outcome, steps_up_outcome, stage_outcome, unit_low_outcome, unit_high_outcome}
+use Rattle.rules.specs.Outcomes.{needs_outcome, is_step_outcome, needed_outcome, needing_outcome, steps_outcome, steps_up_outcome, stage_outcome, unit_low_outcome, unit_high_outcome, room_verdict, filled_verdict, build_verdict, build_outcome, whole_verdict, pair_answer, pair_outcome, unit_outcome, bound_outcome, ListOutcome, list_room, list_answer, list_outcome}
 use Rattle.rules.specs.Told.{answered_pair, answered_number, answered_list, refused_list, told_pair, told_number, told_list}
 use Rattle.rules.proofs.Ranges.{Kept, kept, keep_at, keep_ascends, length-keep, count_past, units_same}
 use Rattle.rules.proofs.Verdicts.{and_both, both_and, within_is, same_test, then_fine, unless_fine, fine_unless}
@@ -253,7 +251,7 @@ unit_in : ℕ → ℕ → ℕ → Verdict
 unit_in n which u = unless (within 1 n u) (BadArgument which)
 
 module _ (b : Build) where
-  whole_fine : whole_verdict (index_of b) ≡ Fine
+  whole_fine : whole_verdict (index_of b) ≡ Ok tt
   unfolding whole_verdict
   whole_fine = fine_unless NotWhole (whole-index b)
 
@@ -265,22 +263,22 @@ module _ (b : Build) where
   unfolding list_outcome unit_in
   list_by_units u units list at = rw (whole_fine, head_units b)
 
-  fine_unit : (which u : ℕ) → unit_in b.course.n which u ≡ Fine → CourseUnit b u
+  fine_unit : (which u : ℕ) → unit_in b.course.n which u ≡ Ok tt → CourseUnit b u
   unfolding unit_in
   fine_unit which u h =
       let r = within_is 1 b.course.n u (unless_fine (within 1 b.course.n u) (BadArgument which) h) in
       record { from = r.0; to = r.1 }
 
 -- what is refused is refused whatever the answer would be
-pair_alike : (v : Verdict) (s t : Bool) → (v ≡ Fine → s ≡ t) → pair_answer v s ≡ pair_answer v t
-pair_alike Fine s t h = rw (h refl)
-pair_alike (Refused r) s t h = refl
+pair_alike : (v : Verdict) (s t : Bool) → (v ≡ Ok tt → s ≡ t) → pair_answer v s ≡ pair_answer v t
+pair_alike (Ok _) s t h = rw (h refl)
+pair_alike (Err r) s t h = refl
 
-list_alike : (v : Verdict) (xs ys list : List ℕ) (at : ℕ) → (v ≡ Fine → xs ≡ ys)
+list_alike : (v : Verdict) (xs ys list : List ℕ) (at : ℕ) → (v ≡ Ok tt → xs ≡ ys)
     → list_answer (v then list_room xs list at) xs list at ≡ list_answer (v then list_room ys list at) ys list at
 unfolding list_answer
-list_alike Fine xs ys list at h = rw (h refl)
-list_alike (Refused r) xs ys list at h = refl
+list_alike (Ok _) xs ys list at h = rw (h refl)
+list_alike (Err r) xs ys list at h = refl
 
 -- accepted listings of the same units
 module _ (a b : Build) (units : b.course.n ≡ a.course.n) where
@@ -390,17 +388,17 @@ module _ (a : Build) where
         needs_pairs = steps_pairs c.needs_pairs;
       }
 
-  steps_filled : filled_verdict (steps_only a.course) a.words a.directory a.work ≡ Fine
+  steps_filled : filled_verdict (steps_only a.course) a.words a.directory a.work ≡ Ok tt
   unfolding filled_verdict room_verdict
   steps_filled = rw (fine_listing (steps_only a.course) steps_accepted) (room_verdict_lem a)
 
-  steps_sound : sound_verdict (steps_only a.course) ≡ Fine
+  steps_sound : sound_verdict (steps_only a.course) ≡ Ok tt
   steps_sound =
       sound_redrawn a.course.n a.course.k a.course.tracks (direct_steps a.course.needs a.course.n) a.course.needs same
       ∙ sound_course a
 
   -- are accepted
-  pub steps_alone : build_verdict (steps_only a.course) a.words a.directory a.work ≡ Fine
+  pub steps_alone : build_verdict (steps_only a.course) a.words a.directory a.work ≡ Ok tt
   unfolding build_verdict
   steps_alone = rw (steps_filled, steps_sound)
 

@@ -2,6 +2,7 @@
 pub mod Ranges
 pub mod Overs
 pub mod Verdicts
+pub mod Found
 pub mod Checks
 pub mod Paths
 pub mod Bits

@@ -1,5 +1,6 @@
 -- The last unit of a track that u needs, and the first that needs u: they stand at low and at high, and where there is none, no unit stands
 -- there. Assumes nothing.
+use Rattle.std.specs.Prelude.{Ok}
 use Prim.Native.Nat.{ℕ, ◌≤◌, ◌<◌}
 use mathlib.Core.Path.{◌≡◌, sym, ap, ◌∙◌, subst}
 use mathlib.Core.Logic.{◌↔◌, ◌⊎◌, inl, inr}
@@ -7,7 +8,6 @@ use native.Mathlib.Omega.{arith}
 use native.Mathlib.Nat.{le_antisymm}
 use native.Mathlib.Decide.{dec_lt, dec_le}
 use lib.ListN.{length}
-use Rattle.rules.specs.declared.Verdict.TheVariants.{Fine}
 use Rattle.rules.specs.Listing.{Listing, track, size, position}
 use Rattle.rules.specs.Order.{Needs, sound_verdict, low, high}
 use Rattle.rules.specs.Questions.{unit_at}
@@ -101,7 +101,7 @@ module _ (c : Listing) (a : Accepted c) (u q : ℕ) where
 
 -- ---- high, with sound tracks
 
-module _ (c : Listing) (a : Accepted c) (sound : sound_verdict c ≡ Fine) (u q : ℕ) where
+module _ (c : Listing) (a : Accepted c) (sound : sound_verdict c ≡ Ok tt) (u q : ℕ) where
   high_found : Found (FirstNeeding c u q) (NoneNeeding c u q) (unit_at c.tracks q (high c u q))
   high_found = go (dec_le (high c u q) (size c.tracks q))
     where

@@ -1,6 +1,7 @@
 -- Laws of a need list: its pairs in order, needs and direct steps by computation and by their words, and listings that say the same.
 -- Only that each pair goes down is used of a list, unless a law says more.
 -- Assumes nothing.
+use Rattle.std.specs.Prelude.{Ok}
 use Prim.Native.Nat.{ℕ, zero, suc, ◌+◌, ◌-◌, ◌≤◌, ◌<◌}
 use mathlib.Core.Path.{◌≡◌, refl, sym, ap, ◌∙◌}
 use mathlib.Core.Bool.{Bool, true, false, not, ◌&&◌, ◌||◌}
@@ -12,7 +13,6 @@ use native.Mathlib.Decide.{dec_lt}
 use lib.Dec.{ltb, eqb}
 use borrow.Author.Tests.{ltb-true, lt-ltb, eqb-true, eq-eqb, not-true, not-false}
 use Rattle.rules.specs.declared.Refusal.TheVariants.{BadPair, PairOrder}
-use Rattle.rules.specs.declared.Verdict.TheVariants.{Fine}
 use Rattle.rules.specs.Ranges.{some}
 use Rattle.rules.specs.Paths.{Path⁺, one, more}
 use Rattle.rules.specs.Listing.{Listed, pairs, upper, lower, within, refuse_first, bad_units, bad_pair, units_above, out_of_order, pairs_verdict}
@@ -92,7 +92,7 @@ order_in l h (suc i) q =
     rw (e, is_above l (suc i) i b) (and_no (ltb 0 (suc i)) refl)
 
 module _ (n : ℕ) (l : List ℕ) where
-  pub pairs_fine : pairs_verdict n l ≡ Fine → Pairs n l
+  pub pairs_fine : pairs_verdict n l ≡ Ok tt → Pairs n l
   unfolding pairs_verdict
   pairs_fine h = record {
     first_in = λ i q. (good i q).0;
@@ -101,13 +101,13 @@ module _ (n : ℕ) (l : List ℕ) where
     ascends = λ i q. in_order l i (refuse_fine (out_of_order l) (pairs l) PairOrder both.1 (i + 1) q);
   }
     where
-      both : (refuse_first (bad_pair n l) (pairs l) BadPair ≡ Fine) × (refuse_first (out_of_order l) (pairs l) PairOrder ≡ Fine)
+      both : (refuse_first (bad_pair n l) (pairs l) BadPair ≡ Ok tt) × (refuse_first (out_of_order l) (pairs l) PairOrder ≡ Ok tt)
       both = then_fine _ _ h
 
       good : (i : ℕ) → i < pairs l → Good n l i
       good i q = good_pair n l i (refuse_fine (bad_pair n l) (pairs l) BadPair both.0 i q)
 
-  pub fine_pairs : Pairs n l → pairs_verdict n l ≡ Fine
+  pub fine_pairs : Pairs n l → pairs_verdict n l ≡ Ok tt
   unfolding pairs_verdict
   fine_pairs c =
       fine_then _

@@ -1,5 +1,6 @@
 -- Number and place together determine the refusal, so what is told determines the answer: the refusals stand in a table by their numbers,
 -- and reading an answer back off it gives the answer. Assumes nothing.
+use Rattle.std.specs.Prelude.{Ok, Err}
 use Prim.Native.Nat.{ℕ, ◌≤◌, ◌<◌, zero-le}
 use mathlib.Core.Path.{◌≡◌, refl, sym, ap, ◌∙◌}
 use mathlib.Core.Bool.{Bool, true, false}
@@ -10,16 +11,10 @@ use native.Mathlib.Decide.{dec_le, ℕ_discrete}
 use lib.ListN.{get_or}
 use Rattle.rules.specs.declared.Refusal.{Refusal}
 use Rattle.rules.specs.declared.Refusal.TheVariants.{OutOfLimits, NoSuchTrack, EmptyTrack, BadPair, PairOrder, ShortArea, UnsoundTrack, BadArgument, NotWhole, ShortList, NoFrame, FrameOrder}
-use Rattle.rules.specs.declared.Verdict.{Verdict}
-use Rattle.rules.specs.declared.Verdict.TheVariants.{Fine, Refused}
-use Rattle.rules.specs.declared.PairAnswer.{PairAnswer}
-use Rattle.rules.specs.declared.PairAnswer.TheVariants as pair
-use Rattle.rules.specs.declared.NumberAnswer.{NumberAnswer}
-use Rattle.rules.specs.declared.NumberAnswer.TheVariants as number
 use Rattle.rules.specs.declared.Told.{Told}
 use Rattle.rules.specs.declared.PairTold.{PairTold}
 use Rattle.rules.specs.declared.NumberTold.{NumberTold}
-use Rattle.rules.specs.Refusals.{number_of}
+use Rattle.rules.specs.Refusals.{number_of, Verdict, PairAnswer, NumberAnswer}
 use Rattle.rules.specs.Outcomes.{yes_or_no, pair_answer, number_answer, ListOutcome}
 use Rattle.rules.specs.Told.{refused, answered_pair, told_refusal, told_verdict, told_pair, told_number, ListTold, told_list}
 
@@ -29,22 +24,22 @@ use Rattle.rules.specs.Told.{refused, answered_pair, told_refusal, told_verdict,
 abbrev pub verdict_of : Told → Verdict
 verdict_of t =
     get_or
-    (Fine
-    ∷ Refused OutOfLimits
-    ∷ Refused (NoSuchTrack t.place)
-    ∷ Refused (EmptyTrack t.place)
-    ∷ Refused (BadPair t.place)
-    ∷ Refused (PairOrder t.place)
-    ∷ Refused ShortArea
-    ∷ Refused (UnsoundTrack t.place)
-    ∷ Refused (BadArgument t.place)
-    ∷ Refused NotWhole
-    ∷ Refused (ShortList t.place)
-    ∷ Refused (NoFrame t.place)
-    ∷ Refused (FrameOrder t.place)
+    (Ok tt
+    ∷ Err OutOfLimits
+    ∷ Err (NoSuchTrack t.place)
+    ∷ Err (EmptyTrack t.place)
+    ∷ Err (BadPair t.place)
+    ∷ Err (PairOrder t.place)
+    ∷ Err ShortArea
+    ∷ Err (UnsoundTrack t.place)
+    ∷ Err (BadArgument t.place)
+    ∷ Err NotWhole
+    ∷ Err (ShortList t.place)
+    ∷ Err (NoFrame t.place)
+    ∷ Err (FrameOrder t.place)
     ∷ [])
     t.number
-    Fine
+    (Ok tt)
 
 abbrev pair_answer_of : PairTold → PairAnswer
 pair_answer_of t = pair_answer (verdict_of t.refusal) t.yes
@@ -52,7 +47,7 @@ pair_answer_of t = pair_answer (verdict_of t.refusal) t.yes
 abbrev number_answer_of : NumberTold → NumberAnswer
 number_answer_of t = number_answer (verdict_of t.refusal) t.number
 
-pub refusal_back : (r : Refusal) → verdict_of (told_refusal r) ≡ Refused r
+pub refusal_back : (r : Refusal) → verdict_of (told_refusal r) ≡ Err r
 refusal_back OutOfLimits = refl
 refusal_back (NoSuchTrack unit) = refl
 refusal_back (EmptyTrack track) = refl
@@ -67,17 +62,17 @@ refusal_back (NoFrame line) = refl
 refusal_back (FrameOrder line) = refl
 
 verdict_back : (v : Verdict) → verdict_of (told_verdict v) ≡ v
-verdict_back Fine = refl
-verdict_back (Refused r) = refusal_back r
+verdict_back (Ok _) = refl
+verdict_back (Err r) = refusal_back r
 
 pair_back : (a : PairAnswer) → pair_answer_of (told_pair a) ≡ a
-pair_back pair.Yes = refl
-pair_back pair.No = refl
-pair_back (pair.Refused r) = rw (refusal_back r)
+pair_back (Ok true) = refl
+pair_back (Ok false) = refl
+pair_back (Err r) = rw (refusal_back r)
 
 number_back : (a : NumberAnswer) → number_answer_of (told_number a) ≡ a
-number_back (number.Number answer) = refl
-number_back (number.Refused r) = rw (refusal_back r)
+number_back (Ok answer) = refl
+number_back (Err r) = rw (refusal_back r)
 
 -- ---- what is told of two answers is the same exactly when the answers are
 
@@ -121,36 +116,36 @@ among_dec (a ∷ l) m = go (ℕ_discrete m a) (among_dec l m)
 
 module _ (v : Verdict) where
   -- those of the list alone, and 0
-  pub told_among : (l : List ℕ) → ((r : Refusal) → (Among l (number_of r) → ⊥) → v ≡ Refused r → ⊥) → Among (0 ∷ l) (told_verdict v).number
+  pub told_among : (l : List ℕ) → ((r : Refusal) → (Among l (number_of r) → ⊥) → v ≡ Err r → ⊥) → Among (0 ∷ l) (told_verdict v).number
   told_among l h = go v refl
     where
-      tried : (r : Refusal) → v ≡ Refused r → Dec (Among l (number_of r)) → Among (0 ∷ l) (number_of r)
+      tried : (r : Refusal) → v ≡ Err r → Dec (Among l (number_of r)) → Among (0 ∷ l) (number_of r)
       tried r e (yes a) = inr a
       tried r e (no n) = absurd (h r n e)
 
       go : (w : Verdict) → v ≡ w → Among (0 ∷ l) (told_verdict w).number
-      go Fine e = inl refl
-      go (Refused r) e = tried r e (among_dec l (number_of r))
+      go (Ok _) e = inl refl
+      go (Err r) e = tried r e (among_dec l (number_of r))
 
   -- none above m
-  pub told_most : (m : ℕ) → ((r : Refusal) → m < number_of r → v ≡ Refused r → ⊥) → (told_verdict v).number ≤ m
+  pub told_most : (m : ℕ) → ((r : Refusal) → m < number_of r → v ≡ Err r → ⊥) → (told_verdict v).number ≤ m
   told_most m h = go v refl
     where
-      tried : (r : Refusal) → v ≡ Refused r → Dec (number_of r ≤ m) → number_of r ≤ m
+      tried : (r : Refusal) → v ≡ Err r → Dec (number_of r ≤ m) → number_of r ≤ m
       tried r e (yes l) = l
       tried r e (no n) = absurd (h r (omega arith) e)
 
       go : (w : Verdict) → v ≡ w → (told_verdict w).number ≤ m
-      go Fine e = zero-le
-      go (Refused r) e = tried r e (dec_le (number_of r) m)
+      go (Ok _) e = zero-le
+      go (Err r) e = tried r e (dec_le (number_of r) m)
 
   -- a number above 0 is that of a refusal
-  pub told_refused : {number place : ℕ} → 1 ≤ number → told_verdict v ≡ refused number place → (r : Refusal) × (number_of r ≡ number) × (v ≡ Refused r)
+  pub told_refused : {number place : ℕ} → 1 ≤ number → told_verdict v ≡ refused number place → (r : Refusal) × (number_of r ≡ number) × (v ≡ Err r)
   told_refused {number} {place} l = go v refl
     where
-      go : (w : Verdict) → v ≡ w → told_verdict w ≡ refused number place → (r : Refusal) × (number_of r ≡ number) × (v ≡ Refused r)
-      go Fine e h = absurd (let z : 0 ≡ number = ap (λ (t : Told). t.number) h in omega arith)
-      go (Refused r) e h = (r, ap (λ (t : Told). t.number) h, e)
+      go : (w : Verdict) → v ≡ w → told_verdict w ≡ refused number place → (r : Refusal) × (number_of r ≡ number) × (v ≡ Err r)
+      go (Ok _) e h = absurd (let z : 0 ≡ number = ap (λ (t : Told). t.number) h in omega arith)
+      go (Err r) e h = (r, ap (λ (t : Told). t.number) h, e)
 
 pub yes_tells : (t : Bool) → told_pair (yes_or_no t) ≡ answered_pair t
 yes_tells true = refl
@@ -158,10 +153,10 @@ yes_tells false = refl
 
 -- the refusal that an answer tells is its verdict's
 pub pair_tells : (v : Verdict) (t : Bool) → (told_pair (pair_answer v t)).refusal ≡ told_verdict v
-pair_tells Fine true = refl
-pair_tells Fine false = refl
-pair_tells (Refused r) t = refl
+pair_tells (Ok _) true = refl
+pair_tells (Ok _) false = refl
+pair_tells (Err r) t = refl
 
 pub number_tells : (v : Verdict) (m : ℕ) → (told_number (number_answer v m)).refusal ≡ told_verdict v
-number_tells Fine m = refl
-number_tells (Refused r) m = refl
+number_tells (Ok _) m = refl
+number_tells (Err r) m = refl

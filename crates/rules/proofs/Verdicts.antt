@@ -1,5 +1,6 @@
 -- Laws of Boolean tests as facts, and of checks that follow one another: which refusal stands, and what a Fine says.
 -- Assumes nothing.
+use Rattle.std.specs.Prelude.{Ok, Err}
 use Prim.Native.Nat.{ℕ, ◌≤◌, ◌<◌}
 use mathlib.Core.Path.{◌≡◌, refl, sym}
 use mathlib.Core.Bool.{Bool, true, false, ◌&&◌, ◌||◌, or-true}
@@ -9,9 +10,7 @@ use native.Mathlib.Decide.{dec_lt}
 use lib.Dec.{leb}
 use borrow.Author.Tests.{lt-ltb, le-ltb, le-leb, lt-leb, leb-true}
 use Rattle.rules.specs.declared.Refusal.{Refusal}
-use Rattle.rules.specs.declared.Verdict.{Verdict}
-use Rattle.rules.specs.declared.Verdict.TheVariants.{Fine, Refused}
-use Rattle.rules.specs.Refusals.{unless, ◌then◌}
+use Rattle.rules.specs.Refusals.{unless, ◌then◌, Verdict}
 use Rattle.rules.specs.Ranges.{first}
 use Rattle.rules.specs.Listing.{within, refuse_first}
 use Rattle.rules.proofs.Ranges.{not_both, first_none, first_is, first_before}
@@ -71,42 +70,42 @@ not_within a b x (inr l) = and_no (leb a x) (lt-leb x b l)
 
 -- ---- one check after another
 
-pub refused_fine : {r : Refusal} → Refused r ≡ Fine → ⊥
+pub refused_fine : {r : Refusal} → ◌≡◌ {A = Verdict} (Err r) (Ok tt) → ⊥
 refused_fine h = let z : ◌≡◌ {A = ℕ} 0 1 = cc in omega arith
 
-pub then_fine : (a b : Verdict) → (a then b) ≡ Fine → (a ≡ Fine) × (b ≡ Fine)
-then_fine Fine b h = (refl, h)
-then_fine (Refused r) b h = absurd (refused_fine h)
+pub then_fine : (a b : Verdict) → (a then b) ≡ Ok tt → (a ≡ Ok tt) × (b ≡ Ok tt)
+then_fine (Ok _) b h = (refl, h)
+then_fine (Err r) b h = absurd (refused_fine h)
 
-pub fine_then : {a : Verdict} (b : Verdict) → a ≡ Fine → (a then b) ≡ b
+pub fine_then : {a : Verdict} (b : Verdict) → a ≡ Ok tt → (a then b) ≡ b
 fine_then b h = rw h
 
-pub refused_then : {a : Verdict} (b : Verdict) {r : Refusal} → a ≡ Refused r → (a then b) ≡ Refused r
+pub refused_then : {a : Verdict} (b : Verdict) {r : Refusal} → a ≡ Err r → (a then b) ≡ Err r
 refused_then b h = rw h
 
-pub unless_fine : (b : Bool) (r : Refusal) → unless b r ≡ Fine → b ≡ true
+pub unless_fine : (b : Bool) (r : Refusal) → unless b r ≡ Ok tt → b ≡ true
 unless_fine true r h = refl
 unless_fine false r h = absurd (refused_fine h)
 
-pub fine_unless : {b : Bool} (r : Refusal) → b ≡ true → unless b r ≡ Fine
+pub fine_unless : {b : Bool} (r : Refusal) → b ≡ true → unless b r ≡ Ok tt
 fine_unless r h = rw h
 
-pub refused-unless : {b : Bool} (r : Refusal) → b ≡ false → unless b r ≡ Refused r
+pub refused-unless : {b : Bool} (r : Refusal) → b ≡ false → unless b r ≡ Err r
 refused-unless r h = rw h
 
 -- ---- the first bad number
 
 module _ (bad : ℕ → Bool) (m : ℕ) (refusal : ℕ → Refusal) where
-  pub refuse_none : ((i : ℕ) → i < m → bad i ≡ false) → refuse_first bad m refusal ≡ Fine
+  pub refuse_none : ((i : ℕ) → i < m → bad i ≡ false) → refuse_first bad m refusal ≡ Ok tt
   unfolding refuse_first
   refuse_none h = rw (le-ltb (first bad m) m (omega (arith, first_none bad m h)))
 
   pub refuse_one : (i : ℕ) → i < m → ((j : ℕ) → j < i → bad j ≡ false) → bad i ≡ true
-      → refuse_first bad m refusal ≡ Refused (refusal i)
+      → refuse_first bad m refusal ≡ Err (refusal i)
   unfolding refuse_first
   refuse_one i l b t = rw (first_is bad m i l b t, lt-ltb i m l)
 
-  pub refuse_fine : refuse_first bad m refusal ≡ Fine → (i : ℕ) → i < m → bad i ≡ false
+  pub refuse_fine : refuse_first bad m refusal ≡ Ok tt → (i : ℕ) → i < m → bad i ≡ false
   unfolding refuse_first
   refuse_fine h i l = go (dec_lt (first bad m) m)
     where
@@ -115,10 +114,10 @@ module _ (bad : ℕ → Bool) (m : ℕ) (refusal : ℕ → Refusal) where
       go (no n) = first_before bad m i (omega arith)
 
   -- the same, of a number that is known to be the first
-  pub refuse_at : (i : ℕ) → i ≡ first bad m → i < m → refuse_first bad m refusal ≡ Refused (refusal i)
+  pub refuse_at : (i : ℕ) → i ≡ first bad m → i < m → refuse_first bad m refusal ≡ Err (refusal i)
   unfolding refuse_first
   refuse_at i e l = rw (sym e, lt-ltb i m l)
 
-  pub refuse_end : (i : ℕ) → i ≡ first bad m → m ≤ i → refuse_first bad m refusal ≡ Fine
+  pub refuse_end : (i : ℕ) → i ≡ first bad m → m ≤ i → refuse_first bad m refusal ≡ Ok tt
   unfolding refuse_first
   refuse_end i e l = rw (sym e, le-ltb i m l)

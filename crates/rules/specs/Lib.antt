@@ -11,3 +11,4 @@ pub mod Index
 pub mod Questions
 pub mod Outcomes
 pub mod Told
+pub mod Lent

@@ -1,11 +1,9 @@
 -- A listing as lent: n, k, a track list in unit order and a need list u, v, u, v and so on; and its refusals 1 to 5.
-use Rattle.std.specs.Prelude.{ℕ, ◌+◌, ◌-◌, ◌*◌, ◌/◌, ◌%◌, ◌<◌, ◌≡◌, Bool, cond, not, ◌&&◌, ◌||◌, List, length, get_or, leb, ltb, eqb}
+use Rattle.std.specs.Prelude.{ℕ, ◌+◌, ◌-◌, ◌*◌, ◌/◌, ◌%◌, ◌<◌, ◌≡◌, Bool, cond, not, ◌&&◌, ◌||◌, List, length, get_or, leb, ltb, eqb, Ok, Err}
 use Rattle.rules.specs.declared.Refusal.{Refusal}
 use Rattle.rules.specs.declared.Refusal.TheVariants.{OutOfLimits, NoSuchTrack, EmptyTrack, BadPair, PairOrder}
-use Rattle.rules.specs.declared.Verdict.{Verdict}
-use Rattle.rules.specs.declared.Verdict.TheVariants.{Fine, Refused}
 use Rattle.rules.specs.Limits.{max_units, max_tracks, max_needs}
-use Rattle.rules.specs.Refusals.{unless, ◌then◌}
+use Rattle.rules.specs.Refusals.{unless, ◌then◌, Verdict}
 use Rattle.rules.specs.Ranges.{count, first}
 
 pub record Listing : Type 0 where
@@ -62,7 +60,7 @@ within a b x = leb a x && leb x b
 
 -- the first number below m at which something is bad, as a refusal
 unfoldable pub refuse_first : (ℕ → Bool) → ℕ → (ℕ → Refusal) → Verdict
-refuse_first bad m refusal = cond (ltb (first bad m) m) (Refused (refusal (first bad m))) Fine
+refuse_first bad m refusal = cond (ltb (first bad m) m) (Err (refusal (first bad m))) (Ok tt)
 
 -- a need list of even length with at most 8,192 pairs
 unfoldable pub counted_needs : List ℕ → Bool

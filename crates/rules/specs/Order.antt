@@ -1,8 +1,8 @@
 -- What a listing says: needs, direct steps, the unit before, soundness, low, high and stage.
 -- `Needs`, `DirectStep` and `Stage` are the words of document 01; `needs`, `step` and `stage` are the same as they compute.
+use Rattle.rules.specs.Refusals.{Verdict}
 use Rattle.std.specs.Prelude.{ℕ, zero, suc, ◌+◌, ◌-◌, ◌≤◌, ◌<◌, Bool, true, false, cond, not, ◌&&◌, ◌||◌, List, get_or, ltb, eqb}
 use Rattle.rules.specs.declared.Refusal.TheVariants.{UnsoundTrack}
-use Rattle.rules.specs.declared.Verdict.{Verdict}
 use Rattle.rules.specs.Ranges.{some, greatest, smallest, pairs_in}
 use Rattle.rules.specs.Paths.{Path⁺, Direct}
 use Rattle.rules.specs.Listing.{Listing, Listed, pairs, upper, lower, track, size, position, refuse_first}

@@ -1,16 +1,9 @@
 -- What each public call answers, and what each lent area then holds, on every input.
-use Rattle.std.specs.Prelude.{ℕ, zero, suc, ◌+◌, ◌*◌, Bool, true, false, cond, ◌&&◌, List, [], ◌∷◌, ◌++◌, length, take, drop, replicate, leb, ltb, eqb}
+use Rattle.std.specs.Prelude.{ℕ, zero, suc, ◌+◌, ◌*◌, Bool, true, false, cond, ◌&&◌, List, [], ◌∷◌, ◌++◌, length, take, drop, replicate, leb, ltb, eqb, Ok, Err}
 use Rattle.rules.specs.declared.Head.{Head}
-use Rattle.rules.specs.declared.Built.{Built}
 use Rattle.rules.specs.declared.Refusal.TheVariants.{OutOfLimits, ShortArea, BadArgument, NotWhole, ShortList}
-use Rattle.rules.specs.declared.Verdict.{Verdict}
-use Rattle.rules.specs.declared.Verdict.TheVariants as verdict
-use Rattle.rules.specs.declared.PairAnswer.{PairAnswer}
-use Rattle.rules.specs.declared.PairAnswer.TheVariants as pair
-use Rattle.rules.specs.declared.NumberAnswer.{NumberAnswer}
-use Rattle.rules.specs.declared.NumberAnswer.TheVariants as number
 use Rattle.rules.specs.Limits.{max_units, max_tracks}
-use Rattle.rules.specs.Refusals.{unless, ◌then◌}
+use Rattle.rules.specs.Refusals.{unless, ◌then◌, Verdict, PairAnswer, NumberAnswer}
 use Rattle.rules.specs.Ranges.{over}
 use Rattle.rules.specs.Listing.{Listing, pairs, upper, lower, within, counted_needs, pairs_verdict, listing_verdict}
 use Rattle.rules.specs.Order.{sound_verdict}
@@ -19,8 +12,8 @@ use Rattle.rules.specs.Questions.{kind10, kind11, kind12, kind13, kind14, kind15
 
 -- what a call that may be refused leaves of an area: refused, as it was
 abbrev pub unless_refused {ℓ} : {A : Type ℓ} → Verdict → A → A → A
-unless_refused verdict.Fine written kept = written
-unless_refused (verdict.Refused r) written kept = kept
+unless_refused (Ok _) written kept = written
+unless_refused (Err r) written kept = kept
 
 -- ---- the build
 
@@ -42,8 +35,14 @@ build_verdict c words directory work = filled_verdict c words directory work the
 abbrev pub empty_head : Head
 empty_head = record { lens = replicate max_tracks 0; n = 0; k = 0 }
 
+-- what a build answers: the head and the bits, both 0 where it is refused
+pub record BuildAnswer : Type 0 where
+  pub head : Head
+  pub bits : ℕ
+  pub verdict : Verdict
+
 pub record BuildOutcome : Type 0 where
-  pub answer : Built
+  pub answer : BuildAnswer
   pub words : List ℕ
   pub directory : List ℕ
   pub work : List ℕ
@@ -73,16 +72,16 @@ unfoldable pub whole_verdict : Index → Verdict
 whole_verdict x = unless (whole x) NotWhole
 
 abbrev pub yes_or_no : Bool → PairAnswer
-yes_or_no true = pair.Yes
-yes_or_no false = pair.No
+yes_or_no true = Ok true
+yes_or_no false = Ok false
 
 abbrev pub pair_answer : Verdict → Bool → PairAnswer
-pair_answer verdict.Fine answer = yes_or_no answer
-pair_answer (verdict.Refused r) answer = pair.Refused r
+pair_answer (Ok _) answer = yes_or_no answer
+pair_answer (Err r) answer = Err r
 
 abbrev pub number_answer : Verdict → ℕ → NumberAnswer
-number_answer verdict.Fine answer = number.Number answer
-number_answer (verdict.Refused r) answer = number.Refused r
+number_answer (Ok _) answer = Ok answer
+number_answer (Err r) answer = Err r
 
 -- kinds 10 and 11
 unfoldable pub pair_outcome : Index → ℕ → ℕ → Bool → PairAnswer

@@ -1,5 +1,5 @@
 -- What is computed over a range of numbers 0, 1, .. m - 1: sums, counts, the greatest, the smallest, the first, lists.
-use Rattle.std.specs.Prelude.{ℕ, zero, suc, ◌+◌, max, min, Bool, true, false, cond, ◌&&◌, ◌||◌, List, [], ◌∷◌, ◌++◌, length, drop, ltb}
+use Rattle.std.specs.Prelude.{ℕ, zero, suc, ◌+◌, max, min, Bool, true, false, cond, ◌&&◌, ◌||◌, List, [], ◌∷◌, ◌++◌, length, drop, ltb, Option, Some, None}
 
 -- f 0 + f 1 + .. + f (m - 1)
 unfoldable pub sum : (ℕ → ℕ) → ℕ → ℕ
@@ -30,6 +30,10 @@ smallest d f (suc m) = min (smallest d f m) (f m)
 unfoldable pub first : (ℕ → Bool) → ℕ → ℕ
 first p zero = 0
 first p (suc m) = cond (ltb (first p m) m) (first p m) (cond (p m) m (suc m))
+
+-- the same where there is one
+abbrev pub first_found : (ℕ → Bool) → ℕ → Option ℕ
+first_found p m = cond (ltb (first p m) m) (Some (first p m)) None
 
 -- some number below m passes
 unfoldable pub some : (ℕ → Bool) → ℕ → Bool

@@ -1,9 +1,7 @@
 -- The number and the place of each refusal, and how checks follow one another: the first refusal stands.
-use Rattle.std.specs.Prelude.{ℕ, Bool, true, false}
+use Rattle.std.specs.Prelude.{ℕ, Bool, true, false, Result, Ok, Err}
 use Rattle.rules.specs.declared.Refusal.{Refusal}
 use Rattle.rules.specs.declared.Refusal.TheVariants.{OutOfLimits, NoSuchTrack, EmptyTrack, BadPair, PairOrder, ShortArea, UnsoundTrack, BadArgument, NotWhole, ShortList, NoFrame, FrameOrder}
-use Rattle.rules.specs.declared.Verdict.{Verdict}
-use Rattle.rules.specs.declared.Verdict.TheVariants.{Fine, Refused}
 
 abbrev pub number_of : Refusal → ℕ
 number_of OutOfLimits = 1
@@ -33,14 +31,26 @@ place_of (ShortList count) = count
 place_of (NoFrame line) = line
 place_of (FrameOrder line) = line
 
+-- nothing to refuse, or the first refusal
+abbrev pub Verdict : Type 0
+Verdict = Result Unit Refusal
+
+-- yes or no to a question about a pair of units, or why there is no answer
+abbrev pub PairAnswer : Type 0
+PairAnswer = Result Bool Refusal
+
+-- a count, a stage or a unit, or why there is none
+abbrev pub NumberAnswer : Type 0
+NumberAnswer = Result ℕ Refusal
+
 -- the refusal where the test fails
 abbrev pub unless : Bool → Refusal → Verdict
-unless true r = Fine
-unless false r = Refused r
+unless true r = Ok tt
+unless false r = Err r
 
 -- one check after another
 abbrev pub ◌then◌ : Verdict → Verdict → Verdict
-◌then◌ Fine v = v
-◌then◌ (Refused r) v = Refused r
+◌then◌ (Ok _) v = v
+◌then◌ (Err r) v = Err r
 
 infixr 20 ◌then◌

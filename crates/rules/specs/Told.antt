@@ -1,17 +1,11 @@
 -- Answers in document 01's numbers: for each case of an answer the number and the place of its refusal, both 0 where there is none, and
 -- beside them the value answered. Every promise about a number, a place or an answer is stated by these definitions.
-use Rattle.std.specs.Prelude.{ℕ, Bool, true, false, List, length}
+use Rattle.std.specs.Prelude.{ℕ, Bool, true, false, List, length, Ok, Err}
 use Rattle.rules.specs.declared.Refusal.{Refusal}
-use Rattle.rules.specs.declared.Verdict.{Verdict}
-use Rattle.rules.specs.declared.Verdict.TheVariants as verdict
-use Rattle.rules.specs.declared.PairAnswer.{PairAnswer}
-use Rattle.rules.specs.declared.PairAnswer.TheVariants as pair
-use Rattle.rules.specs.declared.NumberAnswer.{NumberAnswer}
-use Rattle.rules.specs.declared.NumberAnswer.TheVariants as number
 use Rattle.rules.specs.declared.Told.{Told}
 use Rattle.rules.specs.declared.PairTold.{PairTold}
 use Rattle.rules.specs.declared.NumberTold.{NumberTold}
-use Rattle.rules.specs.Refusals.{number_of, place_of}
+use Rattle.rules.specs.Refusals.{number_of, place_of, Verdict, PairAnswer, NumberAnswer}
 use Rattle.rules.specs.Outcomes.{ListOutcome, written_from}
 
 -- ---- what can be told
@@ -54,17 +48,17 @@ abbrev pub told_refusal : Refusal → Told
 told_refusal r = refused (number_of r) (place_of r)
 
 abbrev pub told_verdict : Verdict → Told
-told_verdict verdict.Fine = no_refusal
-told_verdict (verdict.Refused r) = told_refusal r
+told_verdict (Ok _) = no_refusal
+told_verdict (Err r) = told_refusal r
 
 abbrev pub told_pair : PairAnswer → PairTold
-told_pair pair.Yes = answered_pair true
-told_pair pair.No = answered_pair false
-told_pair (pair.Refused r) = refused_pair (number_of r) (place_of r)
+told_pair (Ok true) = answered_pair true
+told_pair (Ok false) = answered_pair false
+told_pair (Err r) = refused_pair (number_of r) (place_of r)
 
 abbrev pub told_number : NumberAnswer → NumberTold
-told_number (number.Number answer) = answered_number answer
-told_number (number.Refused r) = refused_number (number_of r) (place_of r)
+told_number (Ok answer) = answered_number answer
+told_number (Err r) = refused_number (number_of r) (place_of r)
 
 abbrev pub told_list : ListOutcome → ListTold
 told_list o = record { answer = told_number o.answer; list = o.list }

@@ -1,9 +1,11 @@
 // What every other crate speaks of: the limits, the head of an index, and the numbered refusals.
 #![tactic(auto)]
 
-ghost use Rattle.std.specs.Prelude.{max, ◌≡◌};
+ghost use Rattle.std.specs.Prelude.{◌≡◌};
 ghost use Rattle.rules.specs.Limits.{limits};
 ghost use Rattle.rules.specs.Refusals.{number_of, place_of};
+
+mod telling;
 
 pub const MAX_UNITS: u16 = 1024;
 
@@ -34,13 +36,6 @@ pub fn the_limits() -> Limits
     }
 }
 
-// The greater of two numbers of 16 bits.
-pub fn greater(a: u16, b: u16) -> u16
-    ensures { result ≡ max a b }
-{
-    if a < b { b } else { a }
-}
-
 // The head of an index: the length of each track, 0 beyond the last, and the counts of units and tracks. C reads it as it lies.
 #[repr(C)]
 #[derive(Clone, Copy)]
@@ -48,6 +43,24 @@ pub struct Head {
     pub lens: [u16; 32],
     pub n: u16,
     pub k: u16,
+}
+
+// An index as it is lent: its head, the track of each unit, and the two areas that a build fills.
+#[derive(Clone, Copy)]
+pub struct Index<'a> {
+    pub head: Head,
+    pub tracks: &'a [u16],
+    pub words: &'a [u64],
+    pub directory: &'a [u16],
+}
+
+// A listing as it is lent: n units in k tracks, the track of each unit, and the needs as u, v, u, v and so on.
+#[derive(Clone, Copy)]
+pub struct Listing<'a> {
+    pub n: u16,
+    pub k: u16,
+    pub tracks: &'a [u16],
+    pub needs: &'a [u16],
 }
 
 // Why a call was refused. What a case holds is the place.
@@ -79,81 +92,55 @@ pub enum Refusal {
     FrameOrder(u32),
 }
 
-// Fine, or the first refusal.
-#[derive(Clone, Copy)]
-pub enum Verdict {
-    Fine,
-    Refused(Refusal),
-}
+impl Refusal {
+    // Its number, as document 01's table has it.
+    pub fn number(self) -> u8
+        ensures { result ≡ number_of self }
+    {
+        match self {
+            Refusal::OutOfLimits => 1,
+            Refusal::NoSuchTrack(_) => 2,
+            Refusal::EmptyTrack(_) => 3,
+            Refusal::BadPair(_) => 4,
+            Refusal::PairOrder(_) => 5,
+            Refusal::ShortArea => 6,
+            Refusal::UnsoundTrack(_) => 7,
+            Refusal::BadArgument(_) => 8,
+            Refusal::NotWhole => 9,
+            Refusal::ShortList(_) => 10,
+            Refusal::NoFrame(_) => 11,
+            Refusal::FrameOrder(_) => 12,
+        }
+    }
 
-// The number of a refusal, as document 01's table has it.
-pub fn number(r: Refusal) -> u8
-    ensures { result ≡ number_of r }
-{
-    match r {
-        Refusal::OutOfLimits => 1,
-        Refusal::NoSuchTrack(_) => 2,
-        Refusal::EmptyTrack(_) => 3,
-        Refusal::BadPair(_) => 4,
-        Refusal::PairOrder(_) => 5,
-        Refusal::ShortArea => 6,
-        Refusal::UnsoundTrack(_) => 7,
-        Refusal::BadArgument(_) => 8,
-        Refusal::NotWhole => 9,
-        Refusal::ShortList(_) => 10,
-        Refusal::NoFrame(_) => 11,
-        Refusal::FrameOrder(_) => 12,
+    // Its place, as document 01's table has it.
+    pub fn place(self) -> u32
+        ensures { result ≡ place_of self }
+    {
+        match self {
+            Refusal::OutOfLimits | Refusal::ShortArea | Refusal::NotWhole => 0,
+            Refusal::NoSuchTrack(unit) | Refusal::UnsoundTrack(unit) => unit,
+            Refusal::EmptyTrack(track) => track,
+            Refusal::BadPair(index) | Refusal::PairOrder(index) => index,
+            Refusal::BadArgument(which) => which,
+            Refusal::ShortList(count) => count,
+            Refusal::NoFrame(line) | Refusal::FrameOrder(line) => line,
+        }
     }
 }
 
-// The place of a refusal, as document 01's table has it.
-pub fn place(r: Refusal) -> u32
-    ensures { result ≡ place_of r }
-{
-    match r {
-        Refusal::OutOfLimits => 0,
-        Refusal::NoSuchTrack(unit) => unit,
-        Refusal::EmptyTrack(track) => track,
-        Refusal::BadPair(index) => index,
-        Refusal::PairOrder(index) => index,
-        Refusal::ShortArea => 0,
-        Refusal::UnsoundTrack(unit) => unit,
-        Refusal::BadArgument(which) => which,
-        Refusal::NotWhole => 0,
-        Refusal::ShortList(count) => count,
-        Refusal::NoFrame(line) => line,
-        Refusal::FrameOrder(line) => line,
-    }
-}
-
-// What a build answers beside the areas: the head and the bits that the vectors take, both 0 where it is refused.
+// What a build answers beside the areas: the head, and the bits that the vectors take.
 #[derive(Clone, Copy)]
 pub struct Built {
     pub head: Head,
     pub bits: u32,
-    pub verdict: Verdict,
-}
-
-// The answer to a question about a pair of units.
-#[derive(Clone, Copy)]
-pub enum PairAnswer {
-    Yes,
-    No,
-    Refused(Refusal),
-}
-
-// A count, a stage or a unit; or why there is none.
-#[derive(Clone, Copy)]
-pub enum NumberAnswer {
-    Number(u16),
-    Refused(Refusal),
 }
 
 // ---- answers in document 01's numbers, as C reads them
 
 // A refusal by its number and its place; both 0 where there is none.
 #[repr(C)]
-#[derive(Clone, Copy)]
+#[derive(Clone, Copy, Default)]
 pub struct Told {
     pub number: u32,
     pub place: u32,

@@ -1,5 +1,6 @@
 -- The stages of a need list in order, pair by pair. The last pair of a unit names its greatest listed need, and that is its highest direct
 -- step: were w between them, a path from the unit to w would begin with a listed need as great as w. Assumes nothing.
+use Rattle.std.specs.Prelude.{Ok}
 use Prim.Native.Nat.{ℕ, zero, suc, ◌+◌, ◌-◌, ◌≤◌, ◌<◌, max}
 use mathlib.Core.Path.{◌≡◌, refl, sym, ap, ◌∙◌}
 use mathlib.Core.Bool.{true, false, cond}
@@ -12,7 +13,6 @@ use lib.ListN.{length, get_or, set, length-set}
 use lib.Seq.{get_or-set_same, get_or-set_other}
 use lib.Dec.{eqb}
 use borrow.Author.Tests.{eq-eqb, ne_eqb}
-use Rattle.rules.specs.declared.Verdict.TheVariants.{Fine}
 use Rattle.rules.specs.Ranges.{greatest, table}
 use Rattle.rules.specs.Paths.{one, more}
 use Rattle.rules.specs.Listing.{Listing, Listed, pairs, upper, lower}
@@ -28,7 +28,7 @@ use Rattle.rules.proofs.Stages.{above_unit, above_same, highest_most, stage-next
 use Rattle.stages.specs.Stages.{stage_table}
 
 -- the stages of a built index are those of its listing
-stage_built : (c : Listing) → Accepted c → sound_verdict c ≡ Fine → (u : ℕ) → u ≤ c.n → kind16 (built_index c) u ≡ stage (step c.needs) u
+stage_built : (c : Listing) → Accepted c → sound_verdict c ≡ Ok tt → (u : ℕ) → u ≤ c.n → kind16 (built_index c) u ≡ stage (step c.needs) u
 stage_built c a sound = stage_agrees c.n (kind11 (built_index c)) (step c.needs) (kind11_built c a sound)
 
 -- ---- by the first m pairs
@@ -175,14 +175,6 @@ module _ {n : ℕ} {l : List ℕ} (p : Pairs n l) where
 
 -- ---- the table
 
--- one entry more is 1
-pub ones-next : (xs : List ℕ) (i : ℕ) → i < length xs → ((j : ℕ) → j < i → get_or xs j 0 ≡ 1) → (j : ℕ) → j < i + 1 → get_or (set xs i 1) j 0 ≡ 1
-ones-next xs i q h j l = go (ℕ_discrete j i)
-  where
-    go : Dec (j ≡ i) → get_or (set xs i 1) j 0 ≡ 1
-    go (yes e) = rw e (get_or-set_same xs i 1 0 q)
-    go (no d) = get_or-set_other xs i j 1 0 d ∙ h j (omega arith)
-
 abbrev pub stages_by : List ℕ → ℕ → ℕ → List ℕ
 stages_by l m n = table (λ i. stage_by l m (i + 1)) n
 
@@ -236,6 +228,6 @@ unfolding stage_table
 length_stages l n = length-table _ n
 
 -- the stages of a built index are the table of its listing
-pub stages_built : (c : Listing) → Accepted c → sound_verdict c ≡ Fine → table (λ i. kind16 (built_index c) (i + 1)) c.n ≡ stage_table c.needs c.n
+pub stages_built : (c : Listing) → Accepted c → sound_verdict c ≡ Ok tt → table (λ i. kind16 (built_index c) (i + 1)) c.n ≡ stage_table c.needs c.n
 unfolding stage_table
 stages_built c a sound = table_same _ _ c.n (λ i h. stage_built c a sound (i + 1) (omega arith))

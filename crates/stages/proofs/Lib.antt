@@ -1,2 +1,3 @@
 -- The laws that the table rests on.
 pub mod Lasts
+pub mod PairReads

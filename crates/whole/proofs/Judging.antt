@@ -1,58 +1,63 @@
 -- What judging answers: the number of the first condition that fails, by the tests before it that pass; and what no fault says.
 -- Assumes nothing.
+use Rattle.std.specs.Prelude.{Ok, Err}
 use Prim.Native.Nat.{ℕ, ◌+◌, ◌-◌, ◌*◌, ◌/◌, ◌≤◌, ◌<◌}
 use mathlib.Core.Path.{◌≡◌, sym, ap, ◌∙◌}
 use mathlib.Core.Bool.{Bool, true, false, cond}
 use mathlib.Core.List.{List}
-use mathlib.Core.Logic.{◌⊎◌}
+use mathlib.Core.Logic.{◌⊎◌, inl, inr}
 use native.Mathlib.Omega.{arith}
-use lib.ListN.{length, get_or, replicate}
+use lib.ListN.{length, get_or}
 use lib.Dec.{leb, ltb, eqb}
 use borrow.Author.Tests.{lt-ltb, le-ltb, leb-true, leb-false, le-leb, lt-leb, eqb-true, eq-eqb, ne_eqb}
+use Rattle.rules.specs.declared.Refusal.TheVariants.{NotWhole}
 use Rattle.rules.specs.Ranges.{first, every}
 use Rattle.rules.specs.Listing.{size, within}
 use Rattle.rules.specs.Layout.{room_bits, word_count}
 use Rattle.rules.specs.Bits.{bit, ones_before}
 use Rattle.rules.specs.Index.{Index, lens_of, sizes, in_range, tracks_fit, lengths_true, areas_reach, spare_clear, directory_true, vectors_true, conditions, first_failing, fault, whole}
-use Rattle.rules.proofs.Ranges.{sum_same, first_before, first_met, every_all, every_one, every-not}
-use Rattle.rules.proofs.Verdicts.{and_both, both_and, no_and, and_no, is_within, not_within}
+use Rattle.rules.specs.Outcomes.{whole_verdict}
+use Rattle.rules.proofs.Ranges.{sum_same, first_before, first_met, every_all, every_one, every-not, true_or_false}
+use Rattle.rules.proofs.Verdicts.{and_both, both_and, no_and, and_no, not_yes, is_within, not_within, fine_unless, refused-unless}
 use Rattle.rules.proofs.Tracks.{sizes_all}
 use Rattle.rules.proofs.Layouts.{offset_last, room_most}
 use Rattle.layout.proofs.Rows.{starts_at}
 use Rattle.words.specs.Words.{TrueTo}
 use Rattle.layout.specs.Lengths.{Lengths}
 use Rattle.layout.specs.Starts.{row_starts}
-use Rattle.whole.specs.declared.Judged.{Judged}
-use Rattle.whole.specs.Judged.{judged_by, judged, areas_fault}
+use Rattle.whole.specs.declared.Fault.{Fault}
+use Rattle.whole.specs.Judged.{fault_of, judged_by, judged, areas_fault}
 use Rattle.whole.proofs.Lengths.{length_true}
 
 -- ---- what is judged
 
 module _ (s : ℕ → ℕ) (k : ℕ) {number : ℕ} where
-  -- a fault is judged with no first bits
-  pub judged_faulty : (found : ℕ) → number ≡ found → 1 ≤ found → judged_by s k number ≡ record { fault = found; row = replicate 66 0 }
+  pub judged_faulty : (found : ℕ) → number ≡ found → 1 ≤ found → Err (fault_of found) ≡ judged_by s k number
   unfolding judged_by
   judged_faulty found e h = rw (e, ne_eqb found 0 (λ f. omega arith))
 
-  pub judged_sound : (row : List ℕ) → number ≡ 0 → row ≡ row_starts s k → judged_by s k number ≡ record { fault = 0; row = row }
+  pub judged_sound : {row : List ℕ} → number ≡ 0 → row ≡ row_starts s k → Ok row ≡ judged_by s k number
   unfolding judged_by
-  judged_sound row e f = rw (e, f)
+  judged_sound e f = rw (e, f)
 
-module _ (x : Index) (j : Judged) (e : j ≡ judged x) where
-  pub judged-fault : j.fault ≡ fault x
-  unfolding judged_by
-  judged-fault = ap (λ (j : Judged). j.fault) e
-
+module _ (x : Index) where
   -- no fault: the index is whole, and the first bits are those of its vectors
-  pub judged-whole : j.fault ≡ 0 → (whole x ≡ true) × (j.row ≡ row_starts (sizes x) x.head.k)
-  unfolding judged_by whole
-  judged-whole h =
-      let f : fault x ≡ 0 = sym judged-fault ∙ h in
-      (eq-eqb (fault x) 0 f, ap (λ (j : Judged). j.row) e ∙ rw f)
+  pub judged-whole : (row : List ℕ) → Ok row ≡ judged x → (whole x ≡ true) × (row ≡ row_starts (sizes x) x.head.k)
+  unfolding judged judged_by whole
+  judged-whole row e = go (true_or_false (eqb (fault x) 0))
+    where
+      go : (eqb (fault x) 0 ≡ true) ⊎ (eqb (fault x) 0 ≡ false) → (eqb (fault x) 0 ≡ true) × (row ≡ row_starts (sizes x) x.head.k)
+      go (inl t) = (t, cc (rw t at e))
+      go (inr f) = cc (rw f at e)
 
-  pub judged-not : (j.fault ≡ 0 → ⊥) → whole x ≡ false
-  unfolding whole
-  judged-not n = ne_eqb (fault x) 0 (λ f. n (judged-fault ∙ f))
+  -- so the verdict on the index is known
+  pub whole_fine : {row : List ℕ} → Ok row ≡ judged x → whole_verdict x ≡ Ok tt
+  unfolding whole_verdict
+  whole_fine e = fine_unless NotWhole (judged-whole _ e).0
+
+  pub whole_refused : {f : Fault} → Err f ≡ judged x → whole_verdict x ≡ Err NotWhole
+  unfolding judged judged_by whole_verdict whole
+  whole_refused e = refused-unless NotWhole (not_yes (eqb (fault x) 0) (λ t. cc (rw t at e)))
 
 -- ---- conditions 1 to 3
 

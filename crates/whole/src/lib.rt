@@ -1,18 +1,47 @@
 // Any index judged: whole, or which of the seven conditions fails first.
 #![tactic(auto)]
 
-ghost use Rattle.std.specs.Prelude.{ℕ, ◌+◌, ◌-◌, ◌*◌, ◌/◌, ◌≤◌, ◌<◌, ◌≡◌, cond, length, get_or, replicate, eqb};
+ghost use Rattle.std.specs.Prelude.{ℕ, ◌+◌, ◌-◌, ◌*◌, ◌/◌, ◌≤◌, ◌<◌, ◌≡◌, cond, length, get_or, eqb};
+ghost use Rattle.rules.specs.declared.Refusal.TheVariants.{NotWhole};
 ghost use Rattle.rules.specs.Ranges.{sum, every};
 ghost use Rattle.rules.specs.Layout.{offset, vector_bits, word_count};
 ghost use Rattle.rules.specs.Bits.{bit, ones_before, rank};
-ghost use Rattle.rules.specs.Index.{index, lens_of, vector_of, lengths_true, vectors_true};
+ghost use Rattle.rules.specs.Index.{lens_of, vector_of, lengths_true, vectors_true};
+ghost use Rattle.rules.specs.Lent.{lent_index};
 ghost use Rattle.rules.specs.Outcomes.{whole_verdict};
 ghost use Rattle.words.specs.Words.{TrueTo};
 ghost use Rattle.layout.specs.Lengths.{Lengths};
 ghost use Rattle.layout.specs.Starts.{row_starts};
 ghost use Rattle.whole.specs.Judged.{judged, judged_by, areas_fault};
 
-use rules::{Head, Refusal, Verdict};
+use rules::{Index, Refusal};
+
+// Which condition of a whole index fails first, in document 01's order.
+#[derive(Clone, Copy, PartialEq, Eq)]
+pub enum Fault {
+    // n or k is out of range
+    OutOfRange,
+    // the track list has not n entries, or one is k or more
+    BadTracks,
+    // a length in the head is not the count in the track list, or is 0 below k, or is not 0 beyond
+    BadLengths,
+    // an area has fewer than W entries
+    ShortArea,
+    // a spare bit is 1
+    SpareBit,
+    // a directory entry is not the number of ones before its word
+    BadDirectory,
+    // a vector p,q has not as many ones as p has units
+    BadVector,
+}
+
+impl From<Fault> for Refusal {
+    ghost from_gives = { λ _ refusal. refusal ≡ NotWhole };
+
+    fn from(_fault: Fault) -> Refusal {
+        Refusal::NotWhole
+    }
+}
 
 // The head's lengths are the counts in the track list, at least 1 for each track below k and 0 beyond.
 fn lengths_true(lens: &[u16; 32], tracks: &[u16], k: usize) -> bool
@@ -20,13 +49,12 @@ fn lengths_true(lens: &[u16; 32], tracks: &[u16], k: usize) -> bool
     ensures { result ≡ lengths_true lens.now k tracks.now }
 {
     let counts = tracks::track_lengths(tracks);
+    // no exit before the end: every question pays for this loop, and a branch in it would cost more than the rest of a wrong head
     let mut right = true;
-    let mut q: usize = 0;
-    while q < 32 {
+    for q in 0..32 {
         if lens[q] != counts[q] || (lens[q] == 0) != (k <= q) {
             right = false;
         }
-        q += 1;
     }
     right
 }
@@ -48,14 +76,12 @@ fn directory_true(words: &[u64], directory: &[u16], count: usize) -> bool
     if count == 0 {
         return true;
     }
+    // no exit before the end, as above
     let mut right = directory[0] == 0;
-    let mut j: usize = 1;
-    while j < count {
-        let i = j - 1;
-        if directory[j] as u32 != directory[i] as u32 + u64::count_ones(words[i]) {
+    for j in 1..count {
+        if u32::from(directory[j]) != u32::from(directory[j - 1]) + words[j - 1].count_ones() {
             right = false;
         }
-        j += 1;
     }
     right
 }
@@ -75,18 +101,17 @@ fn row_true(
     requires p_lt_k { (p < k) × (start ≡ offset (lens_of lens.now) k p 0) × (before ≡ rank words.now start) }
     ensures { result ≡ every (λ q. eqb (sum (vector_of (lens_of lens.now) k words.now p q) (vector_bits (lens_of lens.now) p q)) (cond (eqb p q) 0 (lens_of lens.now p))) k }
 {
+    let units = usize::from(lens[p]);
     let mut end = start;
     let mut ones = before;
-    let mut q: usize = 0;
-    while q < k {
+    for q in 0..k {
         if q != p {
             end += layout::vector_room(lens, p, q);
-            ones += lens[p] as usize;
+            ones += units;
             if words::ones_through(words, directory, end - 1) != ones {
                 return false;
             }
         }
-        q += 1;
     }
     true
 }
@@ -105,36 +130,22 @@ fn vectors_true(
     ensures { result ≡ vectors_true (lens_of lens.now) k words.now }
 {
     let mut before: usize = 0;
-    let mut p: usize = 0;
-    while p < k {
+    for p in 0..k {
         if !row_true(words, directory, lens, k, p, row[p] as usize, before) {
             return false;
         }
-        before += (k - 1) * lens[p] as usize;
-        p += 1;
+        before += (k - 1) * usize::from(lens[p]);
     }
     true
 }
 
-// What judging an index finds: the number, from 1, of the first condition of a whole index that fails, 0 where it is whole; and then
-// the first bit of the vectors of each track.
-#[derive(Clone, Copy)]
-pub struct Judged {
-    pub fault: u32,
-    pub row: [u32; 66],
-}
-
-fn faulty(number: u32) -> Judged
-    ensures { result ≡ record { fault = number; row = replicate 66 0 } }
-{
-    Judged {
-        fault: number,
-        row: [0u32; 66],
-    }
-}
-
 // Conditions 4 to 7, of areas for tracks of known lengths.
-fn judge_areas(lens: &[u16; 32], k: usize, words: &[u64], directory: &[u16]) -> Judged
+fn judge_areas(
+    lens: &[u16; 32],
+    k: usize,
+    words: &[u64],
+    directory: &[u16],
+) -> Result<[u32; 66], Fault>
     requires { Lengths (lens_of lens.now) k }
     ensures { result ≡ judged_by (lens_of lens.now) k (areas_fault (lens_of lens.now) k words.now directory.now) }
 {
@@ -142,48 +153,49 @@ fn judge_areas(lens: &[u16; 32], k: usize, words: &[u64], directory: &[u16]) -> 
     let bits = row[k] as usize;
     let count = (bits + 63) / 64;
     if words.len() < count || directory.len() < count {
-        return faulty(4);
+        return Err(Fault::ShortArea);
     }
     if !spare_clear(words, bits) {
-        return faulty(5);
+        return Err(Fault::SpareBit);
     }
     if !directory_true(words, directory, count) {
-        return faulty(6);
+        return Err(Fault::BadDirectory);
     }
     if !vectors_true(words, directory, lens, &row, k) {
-        return faulty(7);
+        return Err(Fault::BadVector);
     }
-    Judged { fault: 0, row }
+    Ok(row)
 }
 
-// Judges any index.
-pub fn judge(head: Head, tracks: &[u16], words: &[u64], directory: &[u16]) -> Judged
-    ensures { result ≡ judged (index head tracks.now words.now directory.now) }
+// Judges any index: the table by which a vector is found, or the first condition that fails.
+pub fn judge(index: &Index) -> Result<[u32; 66], Fault>
+    ensures { result ≡ judged (lent_index index.now) }
 {
+    let Index {
+        head,
+        tracks,
+        words,
+        directory,
+    } = *index;
     let n = head.n;
     let k = head.k;
-    let lens = head.lens;
     if n == 0 || rules::MAX_UNITS < n || k == 0 || rules::MAX_TRACKS < k {
-        return faulty(1);
+        return Err(Fault::OutOfRange);
     }
-    if tracks.len() != n as usize || tracks::bad_track(tracks, k) < tracks.len() {
-        return faulty(2);
+    if tracks.len() != usize::from(n) || tracks::bad_track(tracks, k).is_some() {
+        return Err(Fault::BadTracks);
     }
-    if !lengths_true(&lens, tracks, k as usize) {
-        return faulty(3);
+    if !lengths_true(&head.lens, tracks, usize::from(k)) {
+        return Err(Fault::BadLengths);
     }
-    judge_areas(&lens, k as usize, words, directory)
+    judge_areas(&head.lens, usize::from(k), words, directory)
 }
 
 // Fine where the index is whole, else refusal 9.
-pub fn check(head: Head, tracks: &[u16], words: &[u64], directory: &[u16]) -> Verdict
-    ensures { result ≡ whole_verdict (index head tracks.now words.now directory.now) }
+#[tactic(auto, using(crate::proofs::Judging::whole_fine, crate::proofs::Judging::whole_refused))]
+pub fn check(index: &Index) -> Result<(), Refusal>
+    ensures { result ≡ whole_verdict (lent_index index.now) }
 {
-    let judged = judge(head, tracks, words, directory);
-    let sound = judged.fault == 0;
-    if sound {
-        Verdict::Fine
-    } else {
-        Verdict::Refused(Refusal::NotWhole)
-    }
+    judge(index)?;
+    Ok(())
 }

@@ -1,21 +1,23 @@
 -- A word and a list of words with one bit changed: that bit is the new one, every other is as it was.
 -- Assumes nothing.
-use Prim.Native.Nat.{ℕ, ◌+◌, ◌-◌, ◌*◌, ◌/◌, ◌%◌, ◌^◌, ◌≤◌, ◌<◌, max, min}
+use Prim.Native.Nat.{ℕ, ◌+◌, ◌-◌, ◌*◌, ◌/◌, ◌%◌, ◌^◌, ◌≤◌, ◌<◌}
 use mathlib.Core.Path.{◌≡◌, sym, ap, ◌∙◌, subst}
 use mathlib.Core.List.{List}
 use mathlib.Core.Logic.{◌≢◌, ◌⊎◌, inl, inr}
 use native.Mathlib.Omega.{arith}
-use native.Mathlib.Nat.{add-mul, mod-lt, div_self, zero-div}
+use native.Mathlib.Nat.{add-mul, mod-lt}
 use native.Mathlib.Decide.{dec_lt, ℕ_discrete}
 use lib.ListN.{length, get_or, set, length-set}
 use lib.Seq.{get_or-set_same, get_or-set_other, set_out}
 use lib.Arith.{digits_lt, lt_of_le-ne}
 use lib.Bits.{bit_and, bit_or, and_lt, or_lt}
-use lib.Pow.{pow_pos, pow-lt, shr-shr, split, high, low}
+use lib.Pow.{pow_pos, shr-shr, split, high}
+use mir.Syntax.{w64}
+use Rattle.std.proofs.lemmas.Nat.Bits.{bit_at_cat_low, bit_at_set_same, bit_at_set_other, bit_at_clear_same, bit_at_clear_other}
 use Rattle.rules.specs.Bits.{digit, bit}
-use Rattle.rules.proofs.Bits.{Words, digit_le, digit_low, digits_same}
+use Rattle.rules.proofs.Bits.{Words, digit_low, digits_same}
 use Rattle.words.specs.Words.{with_digit, with_bit}
-use Rattle.words.proofs.Operators.{one_shl, digit_or, digit_and, digit_not, word_parts, shr_word}
+use Rattle.words.proofs.Operators.{word_parts, shr_word}
 
 -- ---- one word
 
@@ -26,9 +28,6 @@ digit-above v w i k e h =
     let n : i + 1 + (k - i - 1) ≡ k = omega arith in
     subst (λ (x : ℕ). v / 2 ^ x % 2 ≡ w / 2 ^ x % 2) n
     (rw (sym (shr-shr v (i + 1) (k - i - 1)), sym (shr-shr w (i + 1) (k - i - 1)), sym (shr-shr v i 1), sym (shr-shr w i 1), e))
-
-digit_below : (v w i k : ℕ) → v % 2 ^ i ≡ w % 2 ^ i → k < i → digit v k ≡ digit w k
-digit_below v w i k e h = sym (digit_low v i k h) ∙ ap (λ (x : ℕ). digit x k) e ∙ digit_low w i k h
 
 -- what stands above bit i, the new bit, what stands below it
 with_parts : (w i b : ℕ) → with_digit w i b ≡ (w / 2 ^ i / 2 * 2 + b) * 2 ^ i + w % 2 ^ i
@@ -41,18 +40,16 @@ module _ (w i b : ℕ) (small : b ≤ 1) where
   with_shr : with_digit w i b / 2 ^ i ≡ w / 2 ^ i / 2 * 2 + b
   with_shr = rw (with_parts w i b) (high (w / 2 ^ i / 2 * 2 + b) i (mod-lt w (pow_pos i)))
 
-  with_mod : with_digit w i b % 2 ^ i ≡ w % 2 ^ i
-  with_mod = rw (with_parts w i b) (low (w / 2 ^ i / 2 * 2 + b) i (mod-lt w (pow_pos i)))
-
   pub digit_with_same : digit (with_digit w i b) i ≡ b
   unfolding digit
   digit_with_same = rw with_shr (omega arith)
 
   pub digit_with_other : (k : ℕ) → k ≢ i → digit (with_digit w i b) k ≡ digit w k
+  unfolding digit
   digit_with_other k ne = go (dec_lt k i)
     where
       go : Dec (k < i) → digit (with_digit w i b) k ≡ digit w k
-      go (yes l) = digit_below (with_digit w i b) w i k with_mod l
+      go (yes l) = rw (with_parts w i b) (bit_at_cat_low (w / 2 ^ i / 2 * 2 + b) i (w % 2 ^ i) k l ∙ digit_low w i k l)
       go (no n) = digit-above (with_digit w i b) w i k (omega (arith, with_shr)) (lt_of_le-ne (omega arith) (λ e. ne (sym e)))
 
   pub with_lt : w < 2 ^ 64 → i < 64 → with_digit w i b < 2 ^ 64
@@ -63,38 +60,27 @@ module _ (w i b : ℕ) (small : b ≤ 1) where
 
 -- ---- what the machine does
 
--- a single bit
-digit_one : (i : ℕ) → digit (2 ^ i) i ≡ 1
-unfolding digit
-digit_one i = rw (div_self (pow_pos i))
-
-digit_none : (i k : ℕ) → k ≢ i → digit (2 ^ i) k ≡ 0
-unfolding with_digit digit
-digit_none i k ne =
-    let alone : with_digit 0 i 1 ≡ 2 ^ i = rw (zero-div (2 ^ i)) (omega arith) in
-    rw (sym alone) (digit_with_other 0 i 1 (omega arith) k ne ∙ rw (zero-div (2 ^ k)))
-
 -- `w | (1 << i)`
 pub set_digit : (w i : ℕ) → w < 2 ^ 64 → i < 64 → bit_or w (1 * 2 ^ i % 2 ^ 64) ≡ with_digit w i 1
+unfolding digit
 set_digit w i h l =
-    rw (one_shl i l)
-    (digits_same (bit_or w (2 ^ i)) (with_digit w i 1) (or_lt 64 w (2 ^ i) h (pow-lt l)) (with_lt w i 1 (omega arith) h l)
-    (λ k p. digit_or w (2 ^ i) k ∙ go k (ℕ_discrete k i)))
+    digits_same (bit_or w (1 * 2 ^ i % 2 ^ 64)) (with_digit w i 1) (or_lt 64 w (1 * 2 ^ i % 2 ^ 64) h (mod-lt (1 * 2 ^ i) (pow_pos 64))) (with_lt w i 1 (omega arith) h l)
+    (λ k p. go k (ℕ_discrete k i))
   where
-    go : (k : ℕ) → Dec (k ≡ i) → max (digit w k) (digit (2 ^ i) k) ≡ digit (with_digit w i 1) k
-    go k (yes e) = rw e (omega (arith, digit_with_same w i 1 (omega arith), digit_one i, digit_le w i))
-    go k (no n) = omega (arith, digit_with_other w i 1 (omega arith) k n, digit_none i k n)
+    go : (k : ℕ) → Dec (k ≡ i) → digit (bit_or w (1 * 2 ^ i % 2 ^ 64)) k ≡ digit (with_digit w i 1) k
+    go k (yes e) = rw e (bit_at_set_same w64 w i l ∙ sym (digit_with_same w i 1 (omega arith)))
+    go k (no n) = bit_at_set_other w64 w i l k n ∙ sym (digit_with_other w i 1 (omega arith) k n)
 
 -- `w & !(1 << i)`
 pub clear_digit : (w i : ℕ) → w < 2 ^ 64 → i < 64 → bit_and w (2 ^ 64 - 1 - 1 * 2 ^ i % 2 ^ 64) ≡ with_digit w i 0
+unfolding digit
 clear_digit w i h l =
-    rw (one_shl i l)
-    (digits_same (bit_and w (2 ^ 64 - 1 - 2 ^ i)) (with_digit w i 0) (and_lt 64 w (2 ^ 64 - 1 - 2 ^ i) h (omega arith)) (with_lt w i 0 (omega arith) h l)
-    (λ k p. digit_and w (2 ^ 64 - 1 - 2 ^ i) k ∙ go k (digit_not (2 ^ i) k (pow-lt l) p) (ℕ_discrete k i)))
+    digits_same (bit_and w (2 ^ 64 - 1 - 1 * 2 ^ i % 2 ^ 64)) (with_digit w i 0) (and_lt 64 w (2 ^ 64 - 1 - 1 * 2 ^ i % 2 ^ 64) h (omega arith)) (with_lt w i 0 (omega arith) h l)
+    (λ k p. go k p (ℕ_discrete k i))
   where
-    go : (k : ℕ) → digit (2 ^ 64 - 1 - 2 ^ i) k ≡ 1 - digit (2 ^ i) k → Dec (k ≡ i) → min (digit w k) (digit (2 ^ 64 - 1 - 2 ^ i) k) ≡ digit (with_digit w i 0) k
-    go k t (yes e) = rw (t, e) (omega (arith, digit_with_same w i 0 (omega arith), digit_one i))
-    go k t (no n) = rw t (omega (arith, digit_with_other w i 0 (omega arith) k n, digit_none i k n, digit_le w k))
+    go : (k : ℕ) → k < 64 → Dec (k ≡ i) → digit (bit_and w (2 ^ 64 - 1 - 1 * 2 ^ i % 2 ^ 64)) k ≡ digit (with_digit w i 0) k
+    go k p (yes e) = rw e (bit_at_clear_same w64 w i l ∙ sym (digit_with_same w i 0 (omega arith)))
+    go k p (no n) = bit_at_clear_other w64 w i l k p n ∙ sym (digit_with_other w i 0 (omega arith) k n)
 
 -- ---- words
 

@@ -1,7 +1,9 @@
 -- A word or a list of words with one bit changed, what the directory must say of the words that a search looks at, and what the search finds.
 use Rattle.std.specs.Prelude.{ℕ, ◌+◌, ◌-◌, ◌*◌, ◌/◌, ◌%◌, ◌^◌, ◌≤◌, ◌<◌, ◌≡◌, List, length, get_or, set}
 use Rattle.std.specs.Int.Count.{ones}
+use Rattle.rules.specs.Ranges.{sum}
 use Rattle.rules.specs.Bits.{digit, ones_before}
+use Rattle.words.specs.declared.Part.{Part}
 
 -- the word w with bit i now b, which is 0 or 1
 unfoldable pub with_digit : ℕ → ℕ → ℕ → ℕ
@@ -33,13 +35,33 @@ pub record Covers (ws ds : List ℕ) (off m : ℕ) : Type 0 where
   pub narrow : off + m ≤ 64 * 4096
   pub at_each : (j : ℕ) → off / 64 ≤ j → 64 * j < off + m → TrueAt ws ds j
 
--- the i-th 1 of the word w is the left-th 1 among the lowest span bits of part, which is w without its lowest at bits
-pub record Seeks (w i part left at span : ℕ) : Type 0 where
-  pub rest : part ≡ w / 2 ^ at
-  pub passed : ones (w % 2 ^ at) + left ≡ i
-  pub some : 1 ≤ left
-  pub among : left ≤ ones (part % 2 ^ span)
-  pub narrow : at + span ≤ 64
+-- the i-th 1 of the word w is the part.left-th among the lowest span bits of part.word, which is w without its lowest part.at bits
+pub record Seeks (w i : ℕ) (part : Part) (span : ℕ) : Type 0 where
+  pub rest : part.word ≡ w / 2 ^ part.at
+  pub passed : ones (w % 2 ^ part.at) + part.left ≡ i
+  pub some : 1 ≤ part.left
+  pub among : part.left ≤ ones (part.word % 2 ^ span)
+  pub narrow : part.at + span ≤ 64
+
+-- the word w has the bits b of word j
+abbrev pub Shows : (ℕ → ℕ) → ℕ → ℕ → Type 0
+Shows b j w = (r : ℕ) → r < 64 → digit w r ≡ b (64 * j + r)
+
+-- the t-th of the bits b that are 1 is in the vector of m bits from bit off on
+pub record InVector (b : ℕ → ℕ) (off m t : ℕ) : Type 0 where
+  pub after : sum b off < t
+  pub among : t ≤ sum b (off + m)
+
+-- each call at a word from lo to hi returns what f says
+abbrev pub Returns : (ℕ → ℕ → Type 0) → ℕ → ℕ → (ℕ → ℕ) → Type 0
+Returns call lo hi f = (j r : ℕ) → lo ≤ j → j ≤ hi → call j r → r ≡ f j
+
+-- the t-th of the bits b is in the vector, and at each word that the vector touches the one call returns how many of them stand before it,
+-- and the other a word that shows them
+pub record Finds (b : ℕ → ℕ) (before word : ℕ → ℕ → Type 0) (off m t : ℕ) : Type 0 where
+  pub in_vector : InVector b off m t
+  pub standing : Returns before (off / 64) ((off + m - 1) / 64) (λ j. sum b (64 * j))
+  pub shown : (j w : ℕ) → off / 64 ≤ j → j ≤ (off + m - 1) / 64 → word j w → Shows b j w
 
 -- word j is among those from lo to hi, fewer than t stand before it, and t or more before the next of them
 pub record LastBelow (before : ℕ → ℕ) (lo hi t j : ℕ) : Type 0 where

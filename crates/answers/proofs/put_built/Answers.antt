@@ -1,11 +1,10 @@
 -- `answers::put_built`: the text, the digits after it, and a line feed.
 -- Assumes nothing.
-use mathlib.Core.Path.{refl, ap, ◌∙◌}
+use mathlib.Core.Path.{refl}
 use native.Mathlib.Omega.{arith}
-use lib.ListN.{length}
-use Rattle.rules.proofs.Overs.{length_over, part_back_next}
+use Rattle.rules.proofs.Overs.{part_back_next}
 use Rattle.answers.specs.Printed.{hex_of, built_line}
-use Rattle.answers.proofs.Lengths.{length_hex, length_built}
+use Rattle.answers.proofs.Lengths.{length_hex}
 use Rattle.answers.proofs.put_built.Goals as goal
 
 pub returns : goal.returns
@@ -16,7 +15,3 @@ returns c =
       refl,
       part_back_next _ _ (hex_of 8 bits) _ _ 6 14 10 c.put_text.ensures refl c.put_hex.ensures (omega arith) (omega arith),
     )
-
-pub shape_of-out : goal.shape_of-out
-shape_of-out c =
-    ap length (returns c).1 ∙ length_over c.args.out.now (built_line c.args.bits) (omega (arith, length_built c.args.bits))

@@ -1,12 +1,11 @@
 -- `answers::put_list`: the count, the units after it, and a line feed.
 -- Assumes nothing.
 use Prim.Native.Nat.{◌+◌, ◌*◌}
-use mathlib.Core.Path.{ap, ◌∙◌}
 use native.Mathlib.Omega.{arith}
 use lib.ListN.{length}
-use Rattle.rules.proofs.Overs.{length_over, part_back_next}
+use Rattle.rules.proofs.Overs.{part_back_next}
 use Rattle.answers.specs.Printed.{hex_of, units_of, list_line}
-use Rattle.answers.proofs.Lengths.{length_hex, length_units, length_list}
+use Rattle.answers.proofs.Lengths.{length_hex, length_units}
 use Rattle.answers.proofs.put_list.Goals as goal
 
 pub returns : goal.returns
@@ -18,7 +17,3 @@ returns c =
       omega arith,
       part_back_next _ (hex_of 4 (length us)) (units_of us) _ _ 4 (4 + 5 * length us) 10 c.put_hex.ensures digits c.put_units.ensures (omega arith) (omega arith),
     )
-
-pub shape_of-out : goal.shape_of-out
-shape_of-out c =
-    ap length (returns c).1 ∙ length_over c.args.out.now (list_line c.args.units.now) (omega (arith, length_list c.args.units.now))

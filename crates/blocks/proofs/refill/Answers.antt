@@ -1,14 +1,24 @@
 -- `blocks::refill`: where no whole line waits, what waits is moved to the front, and what is read comes behind it.
 -- Assumes nothing.
-use Rattle.std.proofs.Common.{◌-◌, ◌∙◌, ap, take, arith}
-use Rattle.blocks.proofs.Refills.{refilled_none, refilled_some}
+use Rattle.std.proofs.Common.{◌≡◌, ◌+◌, ◌-◌, ◌∙◌, arith}
+use Rattle.blocks.proofs.Refills.{refilled_none, refilled_some, front_part, part_rest}
 use Rattle.blocks.proofs.refill.Goals as goal
 
-pub returns-then-end-from-ge11 : goal.returns-then-end-from-ge11
-returns-then-end-from-ge11 g c =
-    refilled_none c.args.bytes.now c.args.bytes.now c.args.from c.args.end c.args.end c.requires.0 c.requires.1 (omega arith)
+pub returns-then-end-from-ge11-clause-refilled : goal.returns-then-end-from-ge11-clause-refilled
+returns-then-end-from-ge11-clause-refilled g c =
+    refilled_none c.args.bytes.now c.args.from c.args.end c.requires.0 c.requires.1 (omega arith)
 
-pub returns : goal.returns
-returns g c =
-    let f = c.fill-filled in
-    refilled_some c.args.bytes.now f.new.bytes c.args.from c.args.end f.result.end c.requires.0 c.requires.1 (omega arith) f.ensures.0 f.ensures.1 (f.ensures.2 ∙ ap (take (c.args.end - c.args.from)) c.keep.ensures) f.result.well
+pub returns-clause-refilled : goal.returns-clause-refilled
+returns-clause-refilled g c =
+    let bytes = c.args.bytes.now in
+    let from = c.args.from in
+    let end = c.args.end in
+    let few = c.in_ok-filled.ensures.filled in
+    let kept = c.fill.ensures.kept ∙ front_part bytes from end c.requires.0 c.requires.1 c.copy_within.ensures.after in
+    refilled_some bytes from end c.requires.0 c.requires.1 c.fill.new.bytes (omega arith) kept c.in_ok-filled.filled few.0 few.1
+
+pub returns-clause-taken : goal.returns-clause-taken
+returns-clause-taken g c =
+    let waited = c.args.end - c.args.from in
+    let e : 0 + waited ≡ waited = omega arith in
+    rw (part_rest c.fill.new.bytes 0 c.in_ok-filled.filled waited, e) c.in_ok-filled.ensures.taken

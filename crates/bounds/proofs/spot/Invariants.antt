@@ -1,11 +1,7 @@
--- `bounds::spot`: after i turns the units 1 to i of the track are counted. Assumes nothing.
-use Prim.Native.Nat.{◌-◌, ◌≤◌}
+-- `bounds::spot`: the units of the track are counted as far as the walk has come. Assumes nothing.
 use mathlib.Core.Path.{◌≡◌}
 use Rattle.rules.specs.Listing.{in_track}
 use Rattle.bounds.proofs.spot.Given as goal
 
-abbrev pub invariant-loop-i : goal.invariant-loop-i
-invariant-loop-i l = (l.i ≤ l.u) × (l.at ≡ in_track l.tracks l.p l.i)
-
-abbrev pub decreases-loop-i : goal.decreases-loop-i
-decreases-loop-i l = l.u - l.i
+abbrev pub invariant-loop-other : goal.invariant-loop-other
+invariant-loop-other l = l.at ≡ in_track l.tracks l.track l.other-index

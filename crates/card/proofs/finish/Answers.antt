@@ -4,7 +4,7 @@ use Prim.Native.Nat.{◌+◌}
 use mathlib.Core.Path.{refl, sym, ◌∙◌}
 use native.Mathlib.Omega.{arith}
 use Rattle.rules.specs.declared.Refusal.TheVariants.{NoFrame, FrameOrder}
-use Rattle.answers.proofs.Lengths.{length-refused}
+use Rattle.answers.proofs.Lengths.{length_refused_line}
 use Rattle.reading.specs.Held.{reading_of}
 use Rattle.rules.proofs.Overs.{over_none}
 use Rattle.card.proofs.Files.{rest_none, rest_stopped, rest_refused}
@@ -21,7 +21,7 @@ returns-then-torn c = λ a.
     let said = c.put_refused.ensures in
     let reads = sym c.is_reading.ensures ∙ c.if-not-is_reading.false in
     rw (rest_refused (reading_of s.card a) s.rest.now reads (omega arith) (omega arith))
-    (said.0 ∙ sym (length-refused (NoFrame (s.card.lines + 1))), said.1)
+    (said.0 ∙ sym (length_refused_line (NoFrame (s.card.lines + 1))), said.1)
 
 pub returns-then-not-is_unfinished : goal.returns-then-not-is_unfinished
 returns-then-not-is_unfinished c = λ a.
@@ -35,4 +35,4 @@ returns c = λ a.
     let said = c.put_refused-2.ensures in
     let early = sym c.is_unfinished.ensures ∙ c.if-not-is_unfinished.false in
     rw (rest_none (reading_of s.card a) s.rest.now (omega arith), early)
-    (said.0 ∙ sym (length-refused (FrameOrder (s.card.lines + 1))), said.1)
+    (said.0 ∙ sym (length_refused_line (FrameOrder (s.card.lines + 1))), said.1)

@@ -1,12 +1,9 @@
--- `layout::units_of`: after q turns the units of the first q tracks are summed. Assumes nothing.
-use Prim.Native.Nat.{◌-◌, ◌*◌, ◌≤◌}
+-- `layout::units_of`: after some turns the units of as many tracks are summed. Assumes nothing.
+use Prim.Native.Nat.{◌*◌, ◌≤◌}
 use mathlib.Core.Path.{◌≡◌}
 use Rattle.rules.specs.Ranges.{sum}
 use Rattle.rules.specs.Index.{lens_of}
 use Rattle.layout.proofs.units_of.Given as goal
 
-abbrev pub invariant-loop-q : goal.invariant-loop-q
-invariant-loop-q l = (l.q ≤ l.k) × (l.units ≡ sum (lens_of l.lens) l.q) × (l.units ≤ 65536 * l.q)
-
-abbrev pub decreases-loop-q : goal.decreases-loop-q
-decreases-loop-q l = l.k - l.q
+abbrev pub invariant-loop-len : goal.invariant-loop-len
+invariant-loop-len l = (l.units ≡ sum (lens_of l.lens) l.len-index) × (l.units ≤ 65536 * l.len-index)

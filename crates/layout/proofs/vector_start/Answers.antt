@@ -1,32 +1,27 @@
 -- `layout::vector_start`: the row starts where the table says, and the vectors p,q' before p,q stand between: each has the units of p, and
 -- together those of the tracks before q. Assumes nothing.
 use Prim.Native.Nat.{◌+◌, ◌*◌}
-use mathlib.Core.Path.{◌≡◌, ap, ◌∙◌}
+use mathlib.Core.Path.{◌≡◌, ap}
 use native.Mathlib.Omega.{arith}
 use lib.ListN.{get_or}
 use Rattle.rules.specs.Ranges.{sum}
 use Rattle.rules.specs.Layout.{offset}
 use Rattle.rules.specs.Index.{lens_of}
 use Rattle.rules.proofs.Layouts.{offset_add, room_past, room_before}
-use Rattle.layout.proofs.Rows.{starts_at, units_at}
+use Rattle.layout.proofs.Rows.{row_start, row_units}
 use Rattle.layout.proofs.vector_start.Goals as goal
 use Rattle.layout.proofs.vector_start.Goals.{After-times, Then-p-q}
-
--- what the table has
-units_2 : (c : After-times) → get_or c.args.row.now (c.args.q + 33) 0 ≡ sum (lens_of c.args.lens.now) c.args.q
-units_2 c =
-    ap (λ l. get_or l (c.args.q + 33) 0) c.requires.3 ∙ units_at (lens_of c.args.lens.now) c.args.k c.args.q (omega arith) (omega arith)
 
 -- the bit before what is counted twice is taken off
 bit : (c : After-times)
     → (let l = lens_of c.args.lens.now in
-    (c.entry.result + c.entry-2.result + c.times.result
-    ≡ offset l c.args.k c.args.p 0 + sum l c.args.q + c.args.q * l c.args.p) × (c.wide-own.result ≡ l c.args.p))
+    (get_or c.args.row.now c.args.p 0 + get_or c.args.row.now (c.args.q + 33) 0 + c.times.result
+    ≡ offset l c.args.k c.args.p 0 + sum l c.args.q + c.args.q * l c.args.p) × (c.from-own.result ≡ l c.args.p))
 bit c =
     let l = lens_of c.args.lens.now in
-    let start : get_or c.args.row.now c.args.p 0 ≡ offset l c.args.k c.args.p 0 =
-    ap (λ r. get_or r c.args.p 0) c.requires.3 ∙ starts_at l c.args.k c.args.p (omega arith) (omega arith) in
-    omega (arith, start, units_2 c, ap (λ x. c.args.q * x) c.wide-own.ensures.0)
+    let start = row_start l c.args.k c.requires.3 c.requires.0 c.args.p (omega arith) in
+    let units = row_units l c.args.k c.requires.3 c.requires.0 c.args.q (omega arith) in
+    omega (arith, start, units, ap (λ x. c.args.q * x) c.from-own.ensures)
 
 -- and the vectors p,q' before p,q
 between : (c : Then-p-q) → (let l = lens_of c.args.lens.now in

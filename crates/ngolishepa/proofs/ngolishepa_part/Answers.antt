@@ -5,4 +5,4 @@ use Rattle.ngolishepa.proofs.Outcomes.{told_part_lem}
 use Rattle.ngolishepa.proofs.ngolishepa_part.Goals as goal
 
 pub returns : goal.returns
-returns c = told_part_lem _ _ (c.tell_verdict.ensures ∙ ap told_verdict c.part_verdict.ensures) c.part_span-span.ensures.value
+returns c = told_part_lem _ _ (c.into.ensures ∙ ap told_verdict c.part_verdict.ensures) c.part_span-span.ensures.value

@@ -13,5 +13,4 @@ returns-then-n-eq0 c = λ a h.
 
 pub returns : goal.returns
 returns c = λ a h.
-    rw c.in_phase-next.ensures
-    (took_head _ _ _ c.requires.0 (record { n_in = (omega arith, omega arith); k_in = (omega arith, omega arith) }) h)
+    took_head _ _ _ c.requires.0 (record { n_in = (omega arith, omega arith); k_in = (omega arith, omega arith) }) h

@@ -1,15 +1,14 @@
 -- `pairs::pair_out_of_order`: what the check leaves open; why it holds is said with the invariant. Assumes nothing.
-use Prim.Native.Nat.{ℕ, ◌+◌, ◌-◌, ◌*◌, ◌/◌, ◌≤◌, ◌<◌}
+use Prim.Native.Nat.{ℕ, ◌+◌, ◌-◌, ◌*◌, ◌≤◌, ◌<◌}
 use mathlib.Core.Path.{◌≡◌, sym, ap, ◌∙◌}
 use mathlib.Core.Bool.{false, not}
 use mathlib.Core.List.{List}
 use native.Mathlib.Omega.{arith}
-use lib.ListN.{length, get_or}
+use lib.ListN.{get_or}
 use borrow.Author.Count.{below_more}
-use borrow.Author.Rules.{rules}
 use borrow.Author.Tests.{lt-ltb, le-ltb}
 use Rattle.rules.specs.Listing.{units_above, out_of_order}
-use Rattle.rules.proofs.Ranges.{first_le, first_is, first_none}
+use Rattle.rules.proofs.Found.{found_at, none_found}
 use Rattle.pairs.proofs.pair_out_of_order.Goals as goal
 use Rattle.pairs.proofs.pair_out_of_order.Goals.{After-is_above}
 
@@ -28,29 +27,18 @@ order_at l i h =
     rw (lt-ltb 0 i h, e, f)
 
 -- the call tells of pair i
-told : (c : After-is_above)
-    → out_of_order c.args.needs.now c.loop-i.i ≡ not c.is_above.result
-told c =
-    order_at c.args.needs.now c.loop-i.i c.loop-i.invariant.0 ∙ ap not (sym c.is_above.ensures)
-
-pub returns-then-pairs-eq0 : goal.returns-then-pairs-eq0
-returns-then-pairs-eq0 c =
-    let l = c.args.needs.now in
-    omega (arith, first_le (out_of_order l) (length l / 2))
+told : (c : After-is_above) → out_of_order c.args.needs.now c.loop-i.i ≡ not c.is_above.result
+told c = order_at c.args.needs.now c.loop-i.i (omega arith) ∙ ap not (sym c.is_above.ensures)
 
 pub loop-i-init : goal.loop-i-init
-loop-i-init c = (search rules, search rules, order_first c.args.needs.now)
+loop-i-init c = order_first c.args.needs.now
 
 pub returns-then-not-is_above : goal.returns-then-not-is_above
 returns-then-not-is_above c =
-    let l = c.args.needs.now in
-    sym (first_is (out_of_order l) (length l / 2) c.loop-i.i c.loop-i-test.true c.loop-i.invariant.2 (told (goal.at.returns-then-not-is_above c).After-is_above ∙ ap not c.if-not-is_above.true))
+    found_at (out_of_order c.args.needs.now) _ _ (omega arith) c.loop-i.invariant (told (goal.at.returns-then-not-is_above c).After-is_above ∙ ap not c.if-not-is_above.true)
 
 pub loop-i-preserved : goal.loop-i-preserved
-loop-i-preserved c =
-    (search rules, search rules, below_more _ _ c.loop-i.invariant.2 (told (goal.at.loop-i-preserved c).After-is_above ∙ ap not c.if-not-is_above.false))
+loop-i-preserved c = below_more _ _ c.loop-i.invariant (told (goal.at.loop-i-preserved c).After-is_above ∙ ap not c.if-not-is_above.false)
 
 pub returns : goal.returns
-returns c =
-    let l = c.args.needs.now in
-    omega (arith, first_none (out_of_order l) (length l / 2) (λ j h. c.loop-i.invariant.2 j (omega arith)))
+returns c = none_found (out_of_order c.args.needs.now) _ (λ j h. c.loop-i.invariant j (omega arith))

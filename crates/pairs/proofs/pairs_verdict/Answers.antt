@@ -1,36 +1,23 @@
--- `pairs::pairs_verdict` meets its contract: refusal 4 over all pairs stands before refusal 5 over all pairs, as in the definition.
--- Assumes nothing.
-use mathlib.Core.Path.{sym, ◌∙◌}
-use native.Mathlib.Omega.{arith}
+-- `pairs::pairs_verdict`: refusal 4 over all pairs stands before refusal 5 over all pairs, as in the definition. Assumes nothing.
+use Rattle.std.proofs.Common.{sym, ◌∙◌}
 use Rattle.rules.specs.declared.Refusal.TheVariants.{BadPair, PairOrder}
-use Rattle.rules.specs.Listing.{pairs, bad_pair, out_of_order, pairs_verdict}
-use Rattle.rules.proofs.Verdicts.{fine_then, refused_then, refuse_at, refuse_end}
+use Rattle.rules.specs.Listing.{bad_pair, out_of_order, pairs_verdict}
+use Rattle.rules.proofs.Verdicts.{fine_then, refused_then}
+use Rattle.rules.proofs.Found.{refuse_found, refuse_not_found}
 use Rattle.pairs.proofs.pairs_verdict.Goals as goal
 
-pub returns-then-bad-pairs : goal.returns-then-bad-pairs
+pub returns-in-Some : goal.returns-in-Some
 unfolding pairs_verdict
-returns-then-bad-pairs c =
-    let a = c.args in
-    let bad = c.bad_pair-bad in
-    sym (refused_then _ (refuse_at (bad_pair a.n a.needs.now) (pairs a.needs.now) BadPair bad.result bad.ensures (omega arith)))
+returns-in-Some c = sym (refused_then _ (refuse_found (bad_pair c.args.n c.args.needs.now) _ BadPair c.in-Some.ensures))
 
--- past the first test no pair is bad
-pub returns-then-late-pairs : goal.returns-then-late-pairs
+pub returns-in-Some-pair_out_of_order : goal.returns-in-Some-pair_out_of_order
 unfolding pairs_verdict
-returns-then-late-pairs c =
-    let a = c.args in
-    let bad = c.bad_pair-bad in
-    let late = c.pair_out_of_order-late in
-    sym
-    (fine_then _ (refuse_end (bad_pair a.n a.needs.now) (pairs a.needs.now) BadPair bad.result bad.ensures (omega arith))
-    ∙ refuse_at (out_of_order a.needs.now) (pairs a.needs.now) PairOrder late.result late.ensures (omega arith))
+returns-in-Some-pair_out_of_order c =
+    sym (fine_then _ (refuse_not_found (bad_pair c.args.n c.args.needs.now) _ BadPair c.in_default.ensures)
+    ∙ refuse_found (out_of_order c.args.needs.now) _ PairOrder c.in-Some-pair_out_of_order.ensures)
 
 pub returns : goal.returns
 unfolding pairs_verdict
 returns c =
-    let a = c.args in
-    let bad = c.bad_pair-bad in
-    let late = c.pair_out_of_order-late in
-    sym
-    (fine_then _ (refuse_end (bad_pair a.n a.needs.now) (pairs a.needs.now) BadPair bad.result bad.ensures (omega arith))
-    ∙ refuse_end (out_of_order a.needs.now) (pairs a.needs.now) PairOrder late.result late.ensures (omega arith))
+    sym (fine_then _ (refuse_not_found (bad_pair c.args.n c.args.needs.now) _ BadPair c.in_default.ensures)
+    ∙ refuse_not_found (out_of_order c.args.needs.now) _ PairOrder c.in_default-pair_out_of_order.ensures)

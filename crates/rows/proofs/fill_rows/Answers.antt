@@ -12,11 +12,11 @@ pub overflow_add-seen : goal.overflow_add-seen
 overflow_add-seen c =
     let p = get_or c.args.tracks.now c.loop-i.i 0 in
     let a = c.requires.accepted in
-    omega (arith, c.loop-i.invariant.seen_are p (omega (arith, a.tracks_below c.loop-i.i (omega arith))), in_le c.args.tracks.now p c.loop-i.i)
+    rw c.from-p.ensures (omega (arith, c.loop-i.invariant.seen_are p (omega (arith, a.tracks_below c.loop-i.i (omega arith))), in_le c.args.tracks.now p c.loop-i.i))
 
 pub loop-i-preserved : goal.loop-i-preserved
 loop-i-preserved c =
-    rows_filled_next c.requires.accepted _ c.loop-i.invariant (omega arith) c.clear_row.ensures c.join_pairs-j.ensures.row_is c.join_pairs-j.ensures.value
+    rw c.from-p.ensures (rows_filled_next c.requires.accepted _ c.loop-i.invariant (omega arith) c.clear_row.ensures c.join_pairs-j.ensures.row_is c.join_pairs-j.ensures.value)
 
 pub returns : goal.returns
 returns c = rows_filled_all c.requires.accepted c.loop-i.invariant (omega arith)

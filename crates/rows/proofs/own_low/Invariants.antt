@@ -5,6 +5,3 @@ use Rattle.rows.proofs.own_low.Given as goal
 
 abbrev pub invariant-loop-j : goal.invariant-loop-j
 invariant-loop-j l = LowTo l.work l.needs l.k l.i l.p l.low l.j
-
-abbrev pub decreases-loop-j : goal.decreases-loop-j
-decreases-loop-j l = l.j

@@ -1,6 +1,6 @@
 -- What each answer adds: the first entry, the entry after a true one, and a turn that finds it right or wrong.
 use Prim.Native.Nat.{ℕ, ◌+◌, ◌-◌, ◌≤◌}
-use mathlib.Core.Path.{◌≡◌, sym, ap, ◌∙◌}
+use mathlib.Core.Path.{◌≡◌, sym, ap}
 use mathlib.Core.Bool.{Bool, true, false, ◌&&◌}
 use mathlib.Core.List.{List}
 use mathlib.Core.Logic.{◌⊎◌, inl, inr}
@@ -49,15 +49,9 @@ pub returns-then-count-eq0 : goal.returns-then-count-eq0
 returns-then-count-eq0 c = sym (every_all (entry_true c.args.words.now c.args.directory.now) c.args.count (λ j l. absurd (omega arith)))
 
 pub loop-j-init : goal.loop-j-init
-loop-j-init c = (omega arith, omega arith, entry_first c.args.words.now c.args.directory.now)
+loop-j-init c = entry_first c.args.words.now c.args.directory.now
 
 pub loop-j-preserved : goal.loop-j-preserved
 loop-j-preserved c =
     let test = entry_test c.args.words.now c.args.directory.now c.loop-j.j (omega arith) in
-    (omega arith, omega arith, grind (arith, test, nat_tests, c.loop-j.invariant.2))
-
-pub returns : goal.returns
-returns c =
-    let a = c.args in
-    let e : c.loop-j.j ≡ a.count = omega arith in
-    c.loop-j.invariant.2 ∙ ap (every (entry_true a.words.now a.directory.now)) e
+    grind (arith, test, nat_tests, c.loop-j.invariant)

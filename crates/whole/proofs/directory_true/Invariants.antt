@@ -1,6 +1,5 @@
 -- `whole::directory_true`: as long as the entries before j are true, entry j is true exactly when it is the one before it and the ones of the
 -- word between. Assumes nothing.
-use Prim.Native.Nat.{◌-◌, ◌≤◌}
 use mathlib.Core.Path.{◌≡◌}
 use lib.ListN.{get_or}
 use lib.Dec.{eqb}
@@ -9,7 +8,4 @@ use Rattle.rules.specs.Bits.{ones_before}
 use Rattle.whole.proofs.directory_true.Given as goal
 
 abbrev pub invariant-loop-j : goal.invariant-loop-j
-invariant-loop-j l = (1 ≤ l.j) × (l.j ≤ l.count) × (l.right ≡ every (λ j. eqb (get_or l.directory j 0) (ones_before l.words j)) l.j)
-
-abbrev pub decreases-loop-j : goal.decreases-loop-j
-decreases-loop-j l = l.count - l.j
+invariant-loop-j l = l.right ≡ every (λ j. eqb (get_or l.directory j 0) (ones_before l.words j)) l.j

@@ -25,7 +25,7 @@ returns-then-words-count c =
     let short_words = reach_words _ _ a.words.now a.directory.now _ (last_bits c.requires c.row_starts-row.ensures) in
     let short_directory = reach_directory _ _ a.words.now a.directory.now _ (last_bits c.requires c.row_starts-row.ensures) in
     let no : areas_reach (lens_of a.lens.now) a.k a.words.now a.directory.now ≡ false = grind (arith, short_words, short_directory) in
-    c.faulty.ensures ∙ sym (judged_faulty _ _ 4 (areas_4 _ _ _ _ no) (omega arith))
+    judged_faulty _ _ 4 (areas_4 _ _ _ _ no) (omega arith)
 
 pub spare_clear-requires-clause-bits_bound : goal.spare_clear-requires-clause-bits_bound
 spare_clear-requires-clause-bits_bound c = few_bits c.requires c.row_starts-row.ensures
@@ -34,14 +34,13 @@ pub returns-then-not-spare_clear : goal.returns-then-not-spare_clear
 returns-then-not-spare_clear c =
     let at = goal.at.returns-then-not-spare_clear c in
     let no = spare_is _ _ c.args.words.now c.args.directory.now _ (last_bits c.requires c.row_starts-row.ensures) ∙ sym c.spare_clear.ensures ∙ c.if-not-spare_clear.true in
-    c.faulty-then-not-spare_clear.ensures ∙ sym (judged_faulty _ _ 5 (areas_5 _ _ _ _ (reach at.Else-directory-count) no) (omega arith))
+    judged_faulty _ _ 5 (areas_5 _ _ _ _ (reach at.Else-directory-count) no) (omega arith)
 
 pub returns-then-not-directory_true : goal.returns-then-not-directory_true
 returns-then-not-directory_true c =
     let at = goal.at.returns-then-not-directory_true c in
     let no = directory_is _ _ c.args.words.now c.args.directory.now _ (last_bits c.requires c.row_starts-row.ensures) ∙ sym c.directory_true.ensures ∙ c.if-not-directory_true.true in
-    c.faulty-then-not-directory_true.ensures
-    ∙ sym (judged_faulty _ _ 6 (areas_6 _ _ _ _ (reach at.Else-directory-count) (clear at.Else-not-spare_clear) no) (omega arith))
+    judged_faulty _ _ 6 (areas_6 _ _ _ _ (reach at.Else-directory-count) (clear at.Else-not-spare_clear) no) (omega arith)
 
 pub vectors_true-requires-clause-true_to : goal.vectors_true-requires-clause-true_to
 vectors_true-requires-clause-true_to c =
@@ -52,12 +51,11 @@ pub returns-then-not-vectors_true : goal.returns-then-not-vectors_true
 returns-then-not-vectors_true c =
     let at = goal.at.returns-then-not-vectors_true c in
     let no = sym c.vectors_true.ensures ∙ c.if-not-vectors_true.true in
-    c.faulty-then-not-vectors_true.ensures
-    ∙ sym (judged_faulty _ _ 7 (areas_7 _ _ _ _ (reach at.Else-directory-count) (clear at.Else-not-spare_clear) (entries at.Else-not-directory_true) no) (omega arith))
+    judged_faulty _ _ 7 (areas_7 _ _ _ _ (reach at.Else-directory-count) (clear at.Else-not-spare_clear) (entries at.Else-not-directory_true) no) (omega arith)
 
 pub returns : goal.returns
 returns c =
     let at = goal.at.returns c in
     let yes = sym c.vectors_true.ensures ∙ c.if-not-vectors_true.false in
     let none = areas_none _ _ _ _ (reach at.Else-directory-count) (clear at.Else-not-spare_clear) (entries at.Else-not-directory_true) yes in
-    sym (judged_sound _ _ _ none c.row_starts-row.ensures)
+    judged_sound _ _ none c.row_starts-row.ensures

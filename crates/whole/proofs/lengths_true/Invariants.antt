@@ -1,12 +1,8 @@
 -- `whole::lengths_true`: after q turns it is known whether the first q lengths are right. Assumes nothing.
-use Prim.Native.Nat.{◌-◌, ◌≤◌}
 use mathlib.Core.Path.{◌≡◌}
 use Rattle.rules.specs.Ranges.{every}
 use Rattle.whole.proofs.Lengths.{length_true}
 use Rattle.whole.proofs.lengths_true.Given as goal
 
 abbrev pub invariant-loop-q : goal.invariant-loop-q
-invariant-loop-q l = (l.q ≤ 32) × (l.right ≡ every (length_true l.lens l.k l.tracks) l.q)
-
-abbrev pub decreases-loop-q : goal.decreases-loop-q
-decreases-loop-q l = 32 - l.q
+invariant-loop-q l = l.right ≡ every (length_true l.lens l.k l.tracks) l.q

@@ -17,7 +17,7 @@ use Rattle.whole.proofs.row_true.Goals.{After-vector_room-end, then-q-p+else-one
 -- where vector p,q ends
 there : (c : After-vector_room-end) → Ended (lens_of c.args.lens.now) c.args.k c.args.p c.loop-q.q (c.loop-q.end + c.vector_room-end.result)
 there c =
-    ended _ _ c.requires.lengths c.args.p c.loop-q.q (omega arith) (omega arith) c.if-q-p.true _ _ c.loop-q.invariant.1 c.vector_room-end.ensures.value
+    ended _ _ c.requires.lengths c.args.p c.loop-q.q (omega arith) (omega arith) c.if-q-p.true _ _ c.loop-q.invariant.0 c.vector_room-end.ensures.value
 
 pub overflow_add-end : goal.overflow_add-end
 overflow_add-end c =
@@ -46,9 +46,9 @@ pub returns-then-ones_through-ones : goal.returns-then-ones_through-ones
 returns-then-ones_through-ones c =
     let at = c.loop-q in
     let e = there (goal.at.returns-then-ones_through-ones c).After-vector_room-end in
-    let test = vector_test _ _ c.args.words.now _ _ _ _ _ e c.if-q-p.true at.invariant.1 at.invariant.2 in
+    let test = vector_test _ _ c.args.words.now _ _ _ _ _ e c.if-q-p.true at.invariant.0 at.invariant.1 in
     sym (every-not (vector_true (lens_of c.args.lens.now) c.args.k c.args.words.now c.args.p) c.args.k at.q (omega arith)
-    (test ∙ ne_eqb _ _ (λ e. c.if-ones_through-ones.true (c.ones_through.ensures ∙ e))))
+    (test ∙ ne_eqb _ _ (λ e. c.if-ones_through-ones.true (c.ones_through.ensures ∙ e ∙ ap (λ (x : ℕ). at.ones + x) (sym c.from-units.ensures)))))
 
 pub loop-q-preserved : goal.loop-q-preserved
 loop-q-preserved c =
@@ -59,23 +59,22 @@ loop-q-preserved c =
     let p = c.args.p in
     elim c.if-q-p.branch [
       | then-q-p+else-ones_through-ones w ↦
-          let e = ended l k c.requires.lengths p at.q (omega arith) (omega arith) w.if-q-p.true _ _ at.invariant.1 w.vector_room-end.ensures.value in
-          let test = vector_test l k ws p at.q _ at.end at.ones e w.if-q-p.true at.invariant.1 at.invariant.2 in
+          let e = ended l k c.requires.lengths p at.q (omega arith) (omega arith) w.if-q-p.true _ _ at.invariant.0 w.vector_room-end.ensures.value in
+          let test = vector_test l k ws p at.q _ at.end at.ones e w.if-q-p.true at.invariant.0 at.invariant.1 in
           let same = sym w.ones_through.ensures ∙ w.if-ones_through-ones.false in
           let h : at.end + w.vector_room-end.result - 1 + 1 ≡ c.if-q-p.end = omega (arith, w.end-is, e.some_bits) in
-          (omega arith, w.end-is ∙ e.at_end, w.ones-is ∙ sym same ∙ ap (rank ws) h, below_more _ at.q at.invariant.3 (test ∙ eq-eqb _ _ same))
+          (w.end-is ∙ e.at_end, w.ones-is ∙ sym same ∙ ap (rank ws) h, below_more _ at.q at.invariant.2 (test ∙ eq-eqb _ _ (same ∙ ap (λ (x : ℕ). at.ones + x) c.from-units.ensures)))
       | else-q-p w ↦
           let e = w.if-q-p.false in
           let stays : offset l k p (at.q + 1) ≡ offset l k p at.q =
           ap (λ (q : ℕ). offset l k p (q + 1)) e ∙ offset_own l k p ∙ sym (ap (offset l k p) e) in (
-            omega arith,
-            w.end-is ∙ at.invariant.1 ∙ sym stays,
-            w.ones-is ∙ at.invariant.2 ∙ sym (ap (rank ws) w.end-is),
-            below_more _ at.q at.invariant.3 (ap (vector_true l k ws p) e ∙ own_true l k ws p),
+            w.end-is ∙ at.invariant.0 ∙ sym stays,
+            w.ones-is ∙ at.invariant.1 ∙ sym (ap (rank ws) w.end-is),
+            below_more _ at.q at.invariant.2 (ap (vector_true l k ws p) e ∙ own_true l k ws p),
           )
     ]
 
 pub returns : goal.returns
 returns c =
     let a = c.args in
-    sym (every_all (vector_true (lens_of a.lens.now) a.k a.words.now a.p) a.k (λ q l. c.loop-q.invariant.3 q (omega arith)))
+    sym (every_all (vector_true (lens_of a.lens.now) a.k a.words.now a.p) a.k (λ q l. c.loop-q.invariant.2 q (omega arith)))

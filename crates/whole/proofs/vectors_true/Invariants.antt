@@ -1,5 +1,5 @@
 -- `whole::vectors_true`: the rows before p are true, and `before` is the rank at the start of row p. Assumes nothing.
-use Prim.Native.Nat.{ℕ, ◌-◌, ◌≤◌, ◌<◌}
+use Prim.Native.Nat.{ℕ, ◌<◌}
 use mathlib.Core.Path.{◌≡◌}
 use mathlib.Core.Bool.{true}
 use Rattle.rules.specs.Ranges.{every}
@@ -10,7 +10,4 @@ use Rattle.whole.proofs.Vectors.{vector_true}
 use Rattle.whole.proofs.vectors_true.Given as goal
 
 abbrev pub invariant-loop-p : goal.invariant-loop-p
-invariant-loop-p l = (l.p ≤ l.k) × (l.before ≡ rank l.words (offset (lens_of l.lens) l.k l.p 0)) × ((p' : ℕ) → p' < l.p → every (vector_true (lens_of l.lens) l.k l.words p') l.k ≡ true)
-
-abbrev pub decreases-loop-p : goal.decreases-loop-p
-decreases-loop-p l = l.k - l.p
+invariant-loop-p l = (l.before ≡ rank l.words (offset (lens_of l.lens) l.k l.p 0)) × ((p' : ℕ) → p' < l.p → every (vector_true (lens_of l.lens) l.k l.words p') l.k ≡ true)

@@ -1,2 +1,0 @@
--- What the contracts of this crate say beside the definitions of `rules`.
-pub mod Arguments

@@ -1,2 +1,0 @@
--- What the crates above share.
-pub mod Telling
