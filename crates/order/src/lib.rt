@@ -26,22 +26,32 @@ fn frame_in_phase(
     requires in_bounds { 5125 ≤ length out.old }
     ensures { Took (rule.frame_in_phase card.phase (reading_of card (entered tracks needs words directory work list)) frame) out.old result (left tracks needs words directory work list) out.new }
 {
+    // measured: with a `match` on the kind too, two more cards are cleared for each line
     match card.phase {
-        Phase::Head => match frame.kind {
-            0x01 => opening::head_frame(card, frame.a, frame.b, out),
-            _ => card.misplaced(out),
-        },
-        Phase::Tracks => match frame.kind {
-            0x02 => opening::track_frame(card, frame.a, frame.b, tracks, out),
-            _ => card.misplaced(out),
-        },
-        Phase::Needs => match frame.kind {
-            0x03 => filing::need_frame(card, frame.a, frame.b, needs, out),
-            0x04 => filing::end_frame(
+        Phase::Head => {
+            if frame.kind != 0x01 {
+                return card.misplaced(out);
+            }
+            opening::head_frame(card, frame.a, frame.b, out)
+        }
+        Phase::Tracks => {
+            if frame.kind != 0x02 {
+                return card.misplaced(out);
+            }
+            opening::track_frame(card, frame.a, frame.b, tracks, out)
+        }
+        Phase::Needs => {
+            let is_need = frame.kind == 0x03;
+            if is_need {
+                return filing::need_frame(card, frame.a, frame.b, needs, out);
+            }
+            if frame.kind != 0x04 {
+                return card.misplaced(out);
+            }
+            filing::end_frame(
                 card, frame.a, frame.b, tracks, needs, words, directory, work, out,
-            ),
-            _ => card.misplaced(out),
-        },
+            )
+        }
         Phase::Asking => {
             let units = card.units;
             let count = card.count;

@@ -21,33 +21,33 @@ words_there c = let r = c.requires.fit.room in omega (arith, count_few c.require
 directory_there : (c : In-Asking) → c.args.card.count ≤ length c.args.directory.now
 directory_there c = let r = c.requires.fit.room in omega (arith, count_few c.requires.fit c.in-Asking.is)
 
-pub returns-in_default : goal.returns-in_default
-returns-in_default c =
+pub returns-then-frame-ne1 : goal.returns-then-frame-ne1
+returns-then-frame-ne1 c =
     let a = c.args in
     let r = reading_of a.card (areas a.tracks.now a.needs.now a.words.now a.directory.now a.work.now a.list.now) in
-    rw (head_not r a.frame c.in-Head.is (λ e. omega arith)) (c.misplaced.ensures _ c.requires.fit.room)
+    rw (head_not r a.frame c.in-Head.is c.if-frame-ne1.true) (c.misplaced.ensures _ c.requires.fit.room)
 
-pub returns-in_default-kind : goal.returns-in_default-kind
-returns-in_default-kind c =
+pub returns-then-frame-ne2 : goal.returns-then-frame-ne2
+returns-then-frame-ne2 c =
     let a = c.args in
     let r = reading_of a.card (areas a.tracks.now a.needs.now a.words.now a.directory.now a.work.now a.list.now) in
-    rw (track-not r a.frame c.in-Tracks.is (λ e. omega arith)) (c.misplaced-in_default-kind.ensures _ c.requires.fit.room)
+    rw (track-not r a.frame c.in-Tracks.is c.if-frame-ne2.true) (c.misplaced-then-frame-ne2.ensures _ c.requires.fit.room)
 
 pub track_frame-requires : goal.track_frame-requires
 track_frame-requires c =
     (c.in-Tracks.is, tracks_left c.requires.fit c.in-Tracks.is, enough (goal.at.track_frame-requires c).Start)
 
-pub returns-in-3 : goal.returns-in-3
-returns-in-3 c =
+pub returns-then-is_need : goal.returns-then-is_need
+returns-then-is_need c =
     let a = c.args in
     let r = reading_of a.card (areas a.tracks.now a.needs.now a.words.now a.directory.now a.work.now a.list.now) in
-    rw (need_taken r a.frame c.in-Needs.is c.in-3.is) (c.need_frame.ensures _ _ _ _ _ c.requires.fit)
+    rw (need_taken r a.frame c.in-Needs.is c.if-is_need.true) (c.need_frame.ensures _ _ _ _ _ c.requires.fit)
 
-pub returns-in_default-kind-2 : goal.returns-in_default-kind-2
-returns-in_default-kind-2 c =
+pub returns-then-frame-ne4 : goal.returns-then-frame-ne4
+returns-then-frame-ne4 c =
     let a = c.args in
     let r = reading_of a.card (areas a.tracks.now a.needs.now a.words.now a.directory.now a.work.now a.list.now) in
-    rw (need_not r a.frame c.in-Needs.is (λ e. omega arith) (λ e. omega arith)) (c.misplaced-in_default-kind-2.ensures _ c.requires.fit.room)
+    rw (need_not r a.frame c.in-Needs.is c.if-is_need.false c.if-frame-ne4.true) (c.misplaced-then-frame-ne4.ensures _ c.requires.fit.room)
 
 pub end_frame-requires : goal.end_frame-requires
 end_frame-requires c =
@@ -75,23 +75,23 @@ question_frame-requires c =
       in_bounds = (c.requires.fit.room.areas_room.list_room, c.requires.in_bounds);
     }
 
-pub returns-in-1 : goal.returns-in-1
-returns-in-1 c =
+pub returns-else-frame-ne1 : goal.returns-else-frame-ne1
+returns-else-frame-ne1 c =
     let a = c.args in
     let r = reading_of a.card (areas a.tracks.now a.needs.now a.words.now a.directory.now a.work.now a.list.now) in
-    rw (head_taken r a.frame c.in-Head.is c.in-1.is) (c.head_frame.ensures (areas a.tracks.now a.needs.now a.words.now a.directory.now a.work.now a.list.now) c.requires.fit)
+    rw (head_taken r a.frame c.in-Head.is c.if-frame-ne1.false) (c.head_frame.ensures (areas a.tracks.now a.needs.now a.words.now a.directory.now a.work.now a.list.now) c.requires.fit)
 
-pub returns-in-2 : goal.returns-in-2
-returns-in-2 c =
+pub returns-else-frame-ne2 : goal.returns-else-frame-ne2
+returns-else-frame-ne2 c =
     let a = c.args in
     let r = reading_of a.card (areas a.tracks.now a.needs.now a.words.now a.directory.now a.work.now a.list.now) in
-    rw (track_taken r a.frame c.in-Tracks.is c.in-2.is) (c.track_frame.ensures _ _ _ _ _ c.requires.fit)
+    rw (track_taken r a.frame c.in-Tracks.is c.if-frame-ne2.false) (c.track_frame.ensures _ _ _ _ _ c.requires.fit)
 
-pub returns-in-4 : goal.returns-in-4
-returns-in-4 c =
+pub returns-else-frame-ne4 : goal.returns-else-frame-ne4
+returns-else-frame-ne4 c =
     let a = c.args in
     let r = reading_of a.card (areas a.tracks.now a.needs.now a.words.now a.directory.now a.work.now a.list.now) in
-    rw (end_taken r a.frame c.in-Needs.is c.in-4.is) (c.end_frame.ensures _ c.in-Needs.is c.requires.fit)
+    rw (end_taken r a.frame c.in-Needs.is c.if-frame-ne4.false) (c.end_frame.ensures _ c.in-Needs.is c.requires.fit)
 
 pub returns-in-Asking : goal.returns-in-Asking
 returns-in-Asking c =
