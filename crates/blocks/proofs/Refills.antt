@@ -5,19 +5,46 @@ use mathlib.Core.Path.{◌≡◌, refl, sym, ap, ◌∙◌}
 use mathlib.Core.Bool.{false}
 use mathlib.Core.List.{List, [], ◌∷◌, ◌++◌, append-nil}
 use mathlib.Core.Logic.{inl, inr}
+use native.Mathlib.Numerals.{add-one}
 use native.Mathlib.Omega.{arith}
 use lib.Dec.{eqb}
-use lib.ListN.{length, take, drop, length-drop}
-use lib.Seq.{length-take-le, take-nil, take_at, drop_at, take-add, drop-drop}
+use lib.ListN.{length, get_or, take, drop, set, length-drop}
+use lib.Seq.{length-take-le, take-suc, get_or-drop, take-nil, take_at, drop_at, take-add, drop-drop}
 use borrow.Author.Tests.{eqb-true, eqb-false}
 use Rattle.std.specs.Prelude.{min, Option, Result, Ok, Err, IfOk, MatchResult}
-use Rattle.std.specs.List.{copy_within}
 use Rattle.std.specs.Io.{ReadsAtMost}
 use Rattle.std.specs.Io.KnownBytes.{ReadConsumes, Consumes, IsAtEnd}
 use Rattle.std.proofs.KnownBytes.{Consumes-nil, Consumes-kept}
 use Rattle.std.proofs.lemmas.List.{take-take}
+use Rattle.rules.specs.Ranges.{over}
+use Rattle.rules.proofs.Overs.{over-next, over_rest}
 use Rattle.blocks.specs.declared.Waiting.{Waiting}
 use Rattle.blocks.specs.Blocks.{part, filled_by, behind, Refilled}
+
+-- ---- bytes moved to the front
+
+module _ (bytes : List ℕ) (from i : ℕ) (h : from + i < length bytes) where
+  abbrev moved : List ℕ
+  moved = over bytes (take i (drop from bytes))
+
+  front_long : length (take i (drop from bytes)) ≡ i
+  front_long = length-take-le i (drop from bytes) (simp length-drop (omega arith))
+
+  -- a byte that is still to be moved is as it was
+  byte_kept : get_or moved (from + i) 0 ≡ get_or (drop from bytes) i 0
+  byte_kept =
+      let e : from + i ≡ i + from = omega arith in
+      ap (λ (j : ℕ). get_or moved j 0) e
+      ∙ sym (get_or-drop i moved from 0)
+      ∙ ap (λ (l : List ℕ). get_or l from 0) (over_rest bytes (take i (drop from bytes)) i front_long)
+      ∙ get_or-drop i bytes from 0
+      ∙ ap (λ (j : ℕ). get_or bytes j 0) (sym e)
+      ∙ sym (get_or-drop from bytes i 0)
+
+  pub moved_next : set moved i (get_or moved (from + i) 0) ≡ over bytes (take (i + 1) (drop from bytes))
+  moved_next =
+      rw (byte_kept, add-one, take-suc (drop from bytes) i 0 (simp length-drop (omega arith)))
+      (over-next bytes (take i (drop from bytes)) i (get_or (drop from bytes) i 0) front_long (omega arith))
 
 -- ---- a read
 
@@ -74,10 +101,10 @@ module _ (bytes : List ℕ) (from end : ℕ) (start_in : from ≤ end) (end_in :
       }
 
   -- what waits, moved to the front
-  pub front_part : {moved : List ℕ} → moved ≡ copy_within bytes from end 0 → take (end - from) moved ≡ part bytes from end
-  front_part copied =
-      let e : 0 + (end - from) ≡ end - from = omega arith in
-      rw (copied, e) (take_at (part bytes from end) (drop (end - from) bytes) (end - from) (part_long bytes from end end_in))
+  pub front_part : {moved : List ℕ} → moved ≡ over bytes (part bytes from end) → take (end - from) moved ≡ part bytes from end
+  unfolding over
+  front_part kept =
+      rw kept (take_at (part bytes from end) (drop (length (part bytes from end)) bytes) (end - from) (part_long bytes from end end_in))
 
   -- what waits stands at the front, and up to some place bytes are there
   module _ (bytes' : List ℕ) (few : end - from < 11) (kept : take (end - from) bytes' ≡ part bytes from end) where

@@ -3,10 +3,23 @@
 
 ghost use Rattle.std.specs.Prelude.{◌-◌, ◌<◌, ◌≤◌, ◌≡◌, true, [], length, take, IfOk, MatchResult};
 ghost use Rattle.std.specs.Io.KnownBytes.{Consumes, IsAtEnd};
+ghost use Rattle.rules.specs.Ranges.{over};
 ghost use Rattle.blocks.specs.Blocks.{part, filled_by, behind, Refilled, NotRefilled};
 
 use std::io;
 use std::io::Read;
+
+// Moves the bytes from one place up to another to the front. By hand, and not by `copy_within`: an edit takes its step for 2.
+fn keep(bytes: &mut [u8], from: usize, end: usize)
+    requires { (from ≤ end) × (end ≤ length bytes.old) }
+    ensures { bytes.new ≡ over bytes.old (part bytes.old from end) }
+{
+    let mut i: usize = 0;
+    while from + i < end {
+        bytes[i] = bytes[from + i];
+        i += 1;
+    }
+}
 
 // Up to where the bytes are filled, by a read's answer: so many came behind those that are there.
 #[tactic(auto, unfolding(crate::specs::Blocks::filled_by))]
@@ -56,7 +69,7 @@ pub fn refill<R: Read>(
             ended: false,
         });
     }
-    bytes.copy_within(from..end, 0);
+    keep(bytes, from, end);
     let have = end - from;
     let filled = fill(input, bytes, have)?;
     Ok(Waiting {
