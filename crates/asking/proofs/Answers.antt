@@ -10,17 +10,18 @@ use lib.ListN.{length, get_or, take, drop}
 use lib.Seq.{take-append_seam}
 use borrow.Author.Tests.{le-leb}
 use Rattle.rules.specs.declared.Refusal.{Refusal}
-use Rattle.rules.specs.declared.Refusal.TheVariants.{NotWhole, ShortList}
+use Rattle.rules.specs.declared.Refusal.TheVariants.{BadArgument, NotWhole, ShortList}
 use Rattle.rules.specs.Ranges.{over}
 use Rattle.rules.specs.Index.{Index, whole}
 use Rattle.rules.specs.Questions.{units_where, kind16}
 use Rattle.rules.specs.Outcomes.{pair_outcome, unit_outcome, bound_outcome, whole_verdict, list_room, written_from, list_answer}
 use Rattle.rules.proofs.Ranges.{units_most, length-table, get_or-table}
-use Rattle.rules.proofs.Verdicts.{fine_unless}
+use Rattle.rules.proofs.Verdicts.{fine_unless, is_within}
 use Rattle.rules.proofs.Wholes.{whole_is}
 use Rattle.known.specs.declared.WholeIndex.{WholeIndex}
+use Rattle.known.specs.Asked.{UnitOf}
 use Rattle.known.specs.Lent.{index_of}
-use Rattle.answers.specs.Printed.{refused_line, pair_line, number_line}
+use Rattle.answers.specs.Printed.{refused_line, pair_line, number_line, list_line}
 use Rattle.answers.proofs.Lengths.{length_pair_most, length_number_most, length_list}
 use Rattle.reading.specs.Card.{list_printed}
 use Rattle.reading.specs.Held.{stages_of}
@@ -50,6 +51,11 @@ module _ (w : WholeIndex) where
   pub whole_fine : whole_verdict (index_of w) ≡ Ok tt
   unfolding whole_verdict
   whole_fine = fine_unless NotWhole w.sure.is_whole
+
+  -- what is printed for a unit's list is its line
+  pub list_line_lem : {u : ℕ} (units : List ℕ) → UnitOf w.tracks.now u → list_printed (index_of w) u units ≡ list_line units
+  unfolding list_printed
+  list_line_lem units h = rw (whole_fine, fine_unless (BadArgument 1) (is_within h.from h.to))
 
   -- units of the index find room in any list area
   pub units_few : (p : ℕ → Bool) → length (units_where p (length w.tracks.now)) ≤ 1024

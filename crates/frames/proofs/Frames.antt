@@ -1,11 +1,12 @@
 -- What a line that is a frame looks like.
 -- Assumes nothing.
-use Prim.Native.Nat.{ℕ, zero, suc, ◌+◌, ◌-◌, ◌*◌, ◌<◌}
+use Prim.Native.Nat.{ℕ, zero, suc, ◌+◌, ◌-◌, ◌*◌, ◌^◌, ◌<◌}
 use mathlib.Core.Path.{◌≡◌, refl, sym, ◌∙◌}
 use mathlib.Core.Bool.{Bool, true, false, ◌&&◌}
 use mathlib.Core.List.{List}
 use mathlib.Core.Logic.{◌⊎◌, inl, inr}
 use native.Mathlib.Omega.{arith}
+use native.Mathlib.Nat.{pow-suc}
 use native.Mathlib.Decide.{dec_lt}
 use native.Mathlib.Numerals.{add-one}
 use lib.ListN.{length, get_or, drop}
@@ -15,8 +16,10 @@ use borrow.Author.Tests.{eqb-true, ne_eqb}
 use Rattle.std.specs.Prelude.{Option, Some, None, IsSome, option_map}
 use Rattle.std.specs.Option.{is_some, option_zip}
 use Rattle.std.proofs.Common.{below_more}
+use Rattle.std.proofs.lemmas.Option.{none-some, same_Some}
 use Rattle.rules.proofs.Ranges.{true_or_false}
-use Rattle.rules.proofs.Verdicts.{and_both, both_and}
+use Rattle.rules.specs.Listing.{within}
+use Rattle.rules.proofs.Verdicts.{and_both, both_and, within_is}
 use Rattle.frames.specs.declared.Frame.{Frame}
 use Rattle.frames.specs.Lines.{digit_of, spelled, four_of, numbers_of, frame_of, line_of}
 
@@ -58,7 +61,29 @@ spelled_digits s (suc w) h =
     let each = below_more _ _ (spelled_digits s w both.0) both.1 in
     rw add-one at each
 
--- a + b digits are a digits and b past them
+-- a digit is below 16
+digit_below : (b : ℕ) {d : ℕ} → digit_of b ≡ Some d → d < 16
+unfolding digit_of
+digit_below b {d} e = go (true_or_false (within 48 57 b)) (true_or_false (within 97 102 b))
+  where
+    go : (within 48 57 b ≡ true) ⊎ (within 48 57 b ≡ false) → (within 97 102 b ≡ true) ⊎ (within 97 102 b ≡ false) → d < 16
+    go (inl t) s = let same = same_Some (b - 48) d (rw t at e) in omega (arith, same, within_is 48 57 b t)
+    go (inr t) (inl s) = let same = same_Some (b - 87) d (rw (t, s) at e) in omega (arith, same, within_is 97 102 b s)
+    go (inr t) (inr s) = absurd (none-some d (rw (t, s) at e))
+
+-- w digits spell a number below 16 ^ w
+pub spelled_below : (s : List ℕ) (w : ℕ) {n : ℕ} → spelled s w ≡ Some n → n < 16 ^ w
+unfolding spelled
+spelled_below s zero {n} e = let same = same_Some 0 n e in omega (arith, same)
+spelled_below s (suc w) {n} e = go (λ m f. spelled_below s w {n = m} f) (spelled s w) refl (digit_of (get_or s w 0)) refl e
+  where
+    go : ((m : ℕ) → spelled s w ≡ Some m → m < 16 ^ w) → (a : Option ℕ) → spelled s w ≡ a → (d : Option ℕ) → digit_of (get_or s w 0) ≡ d
+        → option_map (λ (m : ℕ × ℕ). 16 * m.0 + m.1) (option_zip a d) ≡ Some n → n < 16 ^ suc w
+    go before None f d g e = absurd (none-some n e)
+    go before (Some a) f None g e = absurd (none-some n e)
+    go before (Some a) f (Some d) g e = omega (arith, pow-suc 16 w, before a f, digit_below (get_or s w 0) g, same_Some (16 * a + d) n e)
+
+-- a + b digits are a digits and b past them, both ways
 pub digits_add : (s : List ℕ) (a b : ℕ) → Digits s a → Digits (drop a s) b → Digits s (a + b)
 digits_add s a b h l i less = go (dec_lt i a)
   where
@@ -69,12 +94,15 @@ digits_add s a b h l i less = go (dec_lt i a)
         let past = l (i - a) (omega arith) in
         rw (get_or-drop, e) at past
 
+pub digits_apart : (s : List ℕ) (a b : ℕ) → Digits s (a + b) → Digits s a × Digits (drop a s) b
+digits_apart s a b h = (λ i l. h i (omega arith), λ i l. rw get_or-drop (h (a + i) (omega arith)))
+
 -- eight digits are two numbers, and only they are
 pub digits_numbers : (s : List ℕ) → Digits s 8 → IsSome (numbers_of s)
 unfolding numbers_of four_of
 digits_numbers s h =
-    zipped (spelled s 4) (spelled (drop 4 s) 4)
-    ∙ both_and (digits_spell s 4 (λ i l. h i (omega arith))) (digits_spell (drop 4 s) 4 (λ i l. rw get_or-drop (h (4 + i) (omega arith))))
+    let apart = digits_apart s 4 4 h in
+    zipped (spelled s 4) (spelled (drop 4 s) 4) ∙ both_and (digits_spell s 4 apart.0) (digits_spell (drop 4 s) 4 apart.1)
 
 pub numbers_digits : (s : List ℕ) → IsSome (numbers_of s) → Digits s 8
 unfolding numbers_of four_of

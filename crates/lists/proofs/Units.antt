@@ -17,7 +17,7 @@ use Rattle.rules.specs.Listing.{in_track, size, within}
 use Rattle.rules.specs.Questions.{units_where}
 use Rattle.rules.specs.Order.{highest_step}
 use Rattle.rules.proofs.Ranges.{true_or_false, sum_same, sum_zero, sum_one, greatest-next, greatest_least, greatest_same, units_none, units_yes, units_no, units_longer, units_up, units_same}
-use Rattle.rules.proofs.Overs.{over_none, over-next}
+use Rattle.rules.proofs.Overs.{length_over, over_none, over-next}
 use Rattle.rules.proofs.Verdicts.{is_within, no_and, and_no}
 use Rattle.rules.proofs.Tracks.{in_none, in_le, in_own, in_other, track-next}
 use Rattle.lists.specs.Spans.{in_spans, spanned, last_spanned, Tracks, Held}
@@ -192,6 +192,19 @@ module _ (from to ts area : List ℕ) where
   }
 
   module _ {m count : ℕ} {list : List ℕ} (w : Written from to ts area m list count) where
+    module _ (n : ℕ) (room : length (units_where (in_spans from to ts) n) ≤ length area) where
+      pub written_length : m ≤ n → length list ≡ length area
+      written_length l =
+          ap length w.list_is
+          ∙ length_over area (units_where (in_spans from to ts) m) (omega (arith, units_up (in_spans from to ts) m n l))
+
+      -- as long as a unit in the spans is to come, the count is a place of the area
+      pub written_room : m < n → in_spans from to ts (m + 1) ≡ true → count < length area
+      written_room l t =
+          let b : bit1 (in_spans from to ts (m + 1)) ≡ 1 = rw t in
+          let c = w.count_is in
+          omega (arith, units_longer (in_spans from to ts) m, units_up (in_spans from to ts) (m + 1) n (omega arith))
+
     -- as long as the count falls short, a unit is to come
     pub written_more : (n : ℕ) → m ≤ n → count < length (units_where (in_spans from to ts) n) → m < n
     written_more n l h = go (dec_le n m)

@@ -42,6 +42,10 @@ joined area at from q = max (get_or area (at + q) 0) (get_or area (from + q) 0)
 pub row_as_is : (area : List ℕ) (at k : ℕ) (f : ℕ → ℕ) → ((q : ℕ) → q < k → get_or area (at + q) 0 ≡ f q) → RowIs area area at k f
 row_as_is area at k f h = record { same_length = refl; row = h; kept = λ x h. refl }
 
+-- nothing is written yet
+pub row_start : (area : List ℕ) (at : ℕ) (f : ℕ → ℕ) → RowIs area area at 0 f
+row_start area at f = row_as_is area at 0 f (λ q l. absurd (omega arith))
+
 -- a row that is written again
 pub row_again : {a b c : List ℕ} {at k : ℕ} {f g : ℕ → ℕ} (h : ℕ → ℕ) → RowIs a b at k f → RowIs b c at k g
     → ((q : ℕ) → q < k → g q ≡ h q) → RowIs a c at k h

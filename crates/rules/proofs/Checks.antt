@@ -127,7 +127,7 @@ module _ {a b : Verdict} {r : Refusal} where
       go (inl e) = i.0 e
       go (inr e) = absurd (n e.1)
 
-  -- it comes from the second check, where the first is Fine
+  -- it comes from the second check, where the first refuses nothing
   pub after : {A B : Type 0} → Never a r → (a ≡ Ok tt) ↔ A → (a ≡ Ok tt → (b ≡ Err r) ↔ B) → ((a then b) ≡ Err r) ↔ (A × B)
   after {A} {B} n f i = (λ h. go ((then_refused a b r).0 h), λ x. fine_then b (f.1 x.0) ∙ (i (f.1 x.0)).1 x.1)
     where
@@ -135,7 +135,7 @@ module _ {a b : Verdict} {r : Refusal} where
       go (inl e) = absurd (n e)
       go (inr e) = (f.0 e.0, (i e.0).0 e.1)
 
--- both are Fine
+-- neither refuses
 pub both_fine : {a b : Verdict} {A B : Type 0} → (a ≡ Ok tt) ↔ A → (a ≡ Ok tt → (b ≡ Ok tt) ↔ B) → ((a then b) ≡ Ok tt) ↔ (A × B)
 both_fine {a} {b} f g = (
   (λ h. let e = then_fine a b h in (f.0 e.0, (g e.0).0 e.1)),

@@ -1,4 +1,4 @@
--- Laws of Boolean tests as facts, and of checks that follow one another: which refusal stands, and what a Fine says.
+-- Laws of Boolean tests as facts, and of checks that follow one another: which refusal stands, and what one says that refuses nothing.
 -- Assumes nothing.
 use Rattle.std.specs.Prelude.{Ok, Err}
 use Prim.Native.Nat.{ℕ, ◌≤◌, ◌<◌}

@@ -191,7 +191,7 @@ pub fn judge(index: &Index) -> Result<[u32; 66], Fault>
     judge_areas(&head.lens, usize::from(k), words, directory)
 }
 
-// Fine where the index is whole, else refusal 9.
+// Ok where the index is whole, else refusal 9.
 #[tactic(auto, using(crate::proofs::Judging::whole_fine, crate::proofs::Judging::whole_refused))]
 pub fn check(index: &Index) -> Result<(), Refusal>
     ensures { result ≡ whole_verdict (lent_index index.now) }

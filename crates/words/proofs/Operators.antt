@@ -18,6 +18,10 @@ use Rattle.rules.proofs.Bits.{ones-digit}
 pub one_shl : (k : ℕ) → k < 64 → 1 * 2 ^ k % 2 ^ 64 ≡ 2 ^ k
 one_shl k h = shl_exact {a = 1} 1 k 64 (lit< tt) (omega arith) ∙ one-mul (2 ^ k)
 
+-- `w & 1`
+pub mask_one : (w : ℕ) → bit_and w 1 ≡ w % 2
+mask_one w = and_mask w 1
+
 -- `(words[x / 64] >> (x % 64)) & 1`
 pub bit_read : (ws : List ℕ) (x : ℕ) → bit_and (get_or ws (x / 64) 0 / 2 ^ (x % 64)) 1 ≡ bit ws x
 unfolding bit digit

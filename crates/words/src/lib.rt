@@ -81,10 +81,10 @@ pub fn ones_through(words: &[u64], directory: &[u16], x: usize) -> usize
 
 // What is left of a search for a 1 within a word: the part not yet passed, the ones to pass in it, and the bits passed.
 #[derive(Clone, Copy)]
-struct Part {
-    word: u64,
-    left: u32,
-    at: u32,
+pub struct Part {
+    pub word: u64,
+    pub left: u32,
+    pub at: u32,
 }
 
 impl Part {
