@@ -50,15 +50,27 @@ def closing(ts, i):
     raise ValueError("a bracket is not closed")
 
 
+def opening(ts, i):
+    """The index of the bracket that opens the parameters of the function whose `fn` is at i: past its type parameters, if it has any."""
+    j, depth = i + 2, 0
+    while depth or ts[j][0] != "(":
+        depth += {"<": 1, ">": -1, ">>": -2}.get(ts[j][0], 0)
+        j += 1
+    return j
+
+
 def functions(source):
     """Yields (name, the parameters' tokens, the body's tokens) of each function."""
     ts = tokens(source)
     for i, t in enumerate(ts[:-1]):
         if t[0] != "fn" or ts[i + 1].lastgroup != "name":
             continue
-        first = next(j for j in range(i, len(ts)) if ts[j][0] == "(")
+        first = opening(ts, i)
         last = closing(ts, first)
-        j = next(j for j in range(last, len(ts)) if ts[j][0] in ("{", ";", "requires", "ensures"))
+        j = last + 1
+        while ts[j][0] not in ("{", ";", "requires", "ensures"):
+            # the `;` of an array's type ends no head
+            j = closing(ts, j) + 1 if ts[j][0] in ("(", "[") else j + 1
         while ts[j][0] in ("requires", "ensures"):
             j = closing(ts, next(x for x in range(j, len(ts)) if ts[x][0] == "{")) + 1
         if ts[j][0] == "{":
